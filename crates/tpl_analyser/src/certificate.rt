@@ -23,10 +23,10 @@ use crate::watch::{Unwatched, Watch};
 use std::alloc::{AllocError, Global};
 use tpl_checker::{Below, assumed_for};
 use tpl_graph::{Claim, Graph};
-use tpl_model::{MOST_TOKENS, RuleSet};
+use tpl_model::{MOST_SPLITS, MOST_TOKENS, RuleSet};
 use tpl_outline::{Followers, Stage, stages_of};
 use tpl_paths::TokenSet;
-use tpl_trees::{Certificate, MOST_SPLITS, Tree};
+use tpl_trees::{Certificate, Tree};
 use tpl_wide::links;
 
 /// Searches for a certificate of the claims, each of which can be asked of the graph, by the narrow rules and with at most

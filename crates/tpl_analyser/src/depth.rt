@@ -3,7 +3,7 @@
 ghost use Rattle.std.specs.Prelude.{◌≡◌, ◌≤◌, ◌↔◌, ℕ, IsSome, IfSome};
 
 use std::marker::Model;
-use tpl_trees::MOST_SPLITS;
+use tpl_model::MOST_SPLITS;
 
 /// The most splits on each path of the trees that a search gives: 0 to `MOST_SPLITS`.
 #[derive(Clone, Copy, Debug, PartialEq, Eq)]
@@ -13,7 +13,7 @@ pub struct Depth {
 
 impl Model for Depth {
     ghost use Rattle.std.specs.Prelude.{◌≤◌, ℕ};
-    ghost use Rattle.tpl_trees.specs.declared.limits.TheConstants.{MOST_SPLITS};
+    ghost use Rattle.tpl_model.specs.declared.limits.TheConstants.{MOST_SPLITS};
 
     ghost Value = { ℕ };
 

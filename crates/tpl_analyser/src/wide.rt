@@ -26,8 +26,8 @@ use crate::written::in_form;
 use std::alloc::{AllocError, Global};
 use tpl_checker::{Assumptions, Below, assumed_for};
 use tpl_graph::{Claim, Graph};
-use tpl_model::RuleSet;
-use tpl_trees::{MOST_SPLITS, WideCertificate, WideTree, is_within_wide_limits};
+use tpl_model::{MOST_SPLITS, RuleSet};
+use tpl_trees::{WideCertificate, WideTree, is_within_wide_limits};
 use tpl_wide::{Check, accepts_tree};
 
 /// Searches for a certificate of the claims as [`crate::analyse_within`] does, by the rules that know of tokens and of

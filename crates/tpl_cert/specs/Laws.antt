@@ -7,7 +7,7 @@ use Rattle.tpl_model.specs.declared.rule_set.RuleSet.{RuleSet}
 use Rattle.tpl_model.specs.WiderRules.{WideTree}
 use Rattle.tpl_draft.specs.Named.{Names}
 use Rattle.tpl_trees.specs.WideHeights.{wide_height}
-use Rattle.tpl_trees.specs.declared.limits.TheConstants.{MOST_SPLITS}
+use Rattle.tpl_model.specs.declared.limits.TheConstants.{MOST_SPLITS}
 use Rattle.tpl_cert.specs.Written.{certificate_data}
 
 -- what is written for trees of at most MOST_SPLITS splits on a path nests no deeper than what is read

@@ -20,8 +20,8 @@ use crate::row_text::{open_object, task_name, write_rows, write_wide_rows};
 use json::Writer;
 use std::alloc::{AllocError, Global};
 use tpl_graph::Graph;
-use tpl_model::InputId;
-use tpl_trees::{MOST_SPLITS, Node, Row, Tree, WideNode, WideRow, WideTree};
+use tpl_model::{InputId, MOST_SPLITS};
+use tpl_trees::{Node, Row, Tree, WideNode, WideRow, WideTree};
 
 /// The name of an input, where it is the graph's.
 fn input_name(graph: &Graph, input: InputId) -> Result<&str, TreeToFault>

@@ -38,8 +38,8 @@ fn only(status: Final) -> Finals
 /// which rules it is judged. It is 1,089 bytes long.
 #[derive(Drop)]
 pub struct Assumptions {
-    pub(crate) inputs: [Possible; 16],
-    pub(crate) quiet: [bool; 32],
+    pub(crate) inputs: [Possible; MOST_INPUTS],
+    pub(crate) quiet: [bool; MOST_TOKENS],
     pub(crate) cut: Cut,
     pub(crate) ended: Cut,
     pub(crate) sure: [bool; MOST_SITES],
@@ -55,8 +55,8 @@ impl Assumptions {
             inputs: [Possible {
                 on_true: true,
                 on_false: true,
-            }; 16],
-            quiet: [false; 32],
+            }; MOST_INPUTS],
+            quiet: [false; MOST_TOKENS],
             cut: Cut::none(),
             ended: Cut::none(),
             sure: [false; MOST_SITES],
@@ -78,7 +78,7 @@ impl Assumptions {
         }
     }
 
-    /// The assumptions on the branch of a split where the input, one of the first 16, has this value.
+    /// The assumptions on the branch of a split where the input, one of the first `MOST_INPUTS`, has this value.
     pub fn with_input(&self, input: InputId, value: bool) -> Assumptions
         requires { input.0 < MOST_INPUTS }
         ensures { assumed_of result ≡ with_input (assumed_of self.now) input.0 value }
@@ -98,7 +98,7 @@ impl Assumptions {
         assumed
     }
 
-    /// The assumptions on the branch of a split where the task, one of the first 1,024, ends in this way
+    /// The assumptions on the branch of a split where the task, one of the first `MOST_TASKS`, ends in this way
     /// if it ends.
     pub fn with_end(&self, task: TaskId, status: Final) -> Assumptions
         requires { task.0 < MOST_TASKS }
@@ -109,7 +109,7 @@ impl Assumptions {
         assumed
     }
 
-    /// Assumes besides that the task, one of the first 1,024, ends in this way if it ends.
+    /// Assumes besides that the task, one of the first `MOST_TASKS`, ends in this way if it ends.
     pub fn assume_end(&mut self, task: TaskId, status: Final)
         requires { task.0 < MOST_TASKS }
         ensures { assumed_of self.new ≡ with_end (assumed_of self.old) task.0 status }
@@ -117,7 +117,7 @@ impl Assumptions {
         self.cut = self.cut.keeping(task, only(status));
     }
 
-    /// Assumes besides that the task, one of the first 1,024, ends in one of these ways if it ends.
+    /// Assumes besides that the task, one of the first `MOST_TASKS`, ends in one of these ways if it ends.
     pub fn keep_ends(&mut self, task: TaskId, ends: Finals)
         requires { task.0 < MOST_TASKS }
         ensures { assumed_of self.new ≡ with_kept (assumed_of self.old) task.0 ends }
@@ -125,7 +125,7 @@ impl Assumptions {
         self.cut = self.cut.keeping(task, ends);
     }
 
-    /// The assumptions, and that the task, one of the first 1,024, is given to end in one of these ways if
+    /// The assumptions, and that the task, one of the first `MOST_TASKS`, is given to end in one of these ways if
     /// it ends.
     pub(crate) fn with_ended(&self, task: TaskId, ends: Finals) -> Assumptions
         requires { task.0 < MOST_TASKS }

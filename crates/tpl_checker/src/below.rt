@@ -15,7 +15,7 @@ use tpl_model::{MOST_TASKS, TaskId, TaskSet};
 /// kilobytes long, and made once for all leaves.
 #[derive(Drop)]
 pub struct Below {
-    sets: [TaskSet; 1024],
+    sets: [TaskSet; MOST_TASKS as usize],
 }
 
 impl Below {
@@ -41,7 +41,7 @@ impl Below {
     }
 }
 
-fn no_sets() -> [TaskSet; 1024]
+fn no_sets() -> [TaskSet; MOST_TASKS as usize]
     ensures { (t : ℕ) → slice_index_or result t [] ≡ [] }
 {
     array::from_fn(|_| TaskSet::empty())

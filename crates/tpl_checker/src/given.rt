@@ -115,7 +115,7 @@ fn with_given(graph: &Graph, assumed: &Assumptions, one: Given) -> Assumptions
 
 /// The tokens, with their sources, and theirs: a source is declared before the token that is linked
 /// to it, so one pass from the last token down finds them.
-fn with_sources(graph: &Graph, quiet: [bool; 32]) -> [bool; 32]
+fn with_sources(graph: &Graph, quiet: [bool; MOST_TOKENS]) -> [bool; MOST_TOKENS]
     ensures { (given : List Given) → ((k : ℕ) → slice_index_or quiet k false ≡ gives_quiet given k)
         → (k : ℕ) → slice_index_or result k false ≡ given_quiet graph.now.graph given k }
 {
@@ -131,7 +131,7 @@ fn with_sources(graph: &Graph, quiet: [bool; 32]) -> [bool; 32]
 }
 
 /// The marks, and one for each of the tokens.
-fn marked(quiet: [bool; 32], tokens: &[TokenId]) -> [bool; 32]
+fn marked(quiet: [bool; MOST_TOKENS], tokens: &[TokenId]) -> [bool; MOST_TOKENS]
     requires { AllTokens MOST_TOKENS tokens.now }
     ensures { (k : ℕ) → slice_index_or result k false ≡ (slice_index_or quiet k false
         || mem k (map token_number tokens.now)) }

@@ -12,8 +12,8 @@ use crate::given::assumed_for;
 use crate::shape::misfit;
 use crate::tree::tree_fault;
 use tpl_graph::{Claim, Graph};
-use tpl_model::{CertFault, RuleSet};
-use tpl_trees::{Certificate, MOST_SPLITS, Tree};
+use tpl_model::{CertFault, MOST_SPLITS, RuleSet};
+use tpl_trees::{Certificate, Tree};
 
 /// Checks that the certificate proves the claims of the graph, each of which can be asked of it, by
 /// these rules.

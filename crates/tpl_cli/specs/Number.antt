@@ -1,12 +1,12 @@
 -- The options for numbers.
-use Rattle.std.specs.Prelude.{ℕ, List, [], ◌∷◌, codes}
+use Rattle.std.specs.Prelude.{ℕ, List, [], ◌∷◌, codes, decimal}
 use Rattle.clap.specs.Words.{Text}
 use Rattle.tpl_each.specs.declared.slot.TheConstants.{MOST_JOBS}
-use Rattle.tpl_model.specs.declared.limits.TheConstants.{MOST_WORKERS}
+use Rattle.tpl_model.specs.declared.limits.TheConstants.{MOST_SPLITS, MOST_WORKERS}
 use Rattle.tpl_parts.specs.declared.version.Version.TheVariants.{Three}
 use Rattle.tpl_reader.specs.Asked.{most_claims}
-use Rattle.tpl_trees.specs.declared.limits.TheConstants.{MOST_SPLITS}
 use Rattle.tpl_cli.specs.declared.number.Number.{Number}
+use Rattle.tpl_cli.specs.declared.number.TheConstants.{MOST_RUNS}
 use Rattle.tpl_cli.specs.declared.number.Number.TheVariants.{Depth, Workers, Claim, Runs, Seed, Jobs}
 
 -- the name of the option
@@ -18,10 +18,6 @@ number_name Runs = codes "runs"
 number_name Seed = codes "seed"
 number_name Jobs = codes "jobs"
 
--- the most random runs that are tried for a claim
-abbrev pub most_runs : ℕ
-most_runs = 1000000
-
 -- the last seed: a number of 32 bits
 abbrev pub last_seed : ℕ
 last_seed = 4294967295
@@ -31,7 +27,7 @@ abbrev pub number_range : Number → ℕ × ℕ
 number_range Depth = (0, MOST_SPLITS)
 number_range Workers = (1, MOST_WORKERS)
 number_range Claim = (1, most_claims Three)
-number_range Runs = (0, most_runs)
+number_range Runs = (0, MOST_RUNS)
 number_range Seed = (0, last_seed)
 number_range Jobs = (1, MOST_JOBS)
 
@@ -46,4 +42,4 @@ usual Jobs = []
 
 -- the greatest depth, which stands for one that is left out in a search for verdicts
 abbrev pub deepest : Text
-deepest = codes "6"
+deepest = decimal MOST_SPLITS

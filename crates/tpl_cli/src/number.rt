@@ -2,17 +2,21 @@
 
 ghost use Rattle.std.specs.Prelude.{◌≡◌, [], ◌∷◌, MatchOption};
 ghost use Rattle.tpl_cli.specs.Prelude.{number_name, number_range, usual};
+ghost use Rattle.tpl_cli.specs.Number.{deepest};
 
 use tpl_each::MOST_JOBS;
-use tpl_model::MOST_WORKERS;
+use tpl_model::{MOST_SPLITS, MOST_WORKERS};
 use tpl_reader::{Version, most_claims};
-use tpl_trees::MOST_SPLITS;
 
 /// The most random runs that are tried for a claim.
 const MOST_RUNS: u32 = 1_000_000;
 
 /// The greatest depth, which stands for one that is left out in a search for verdicts.
-pub(crate) const DEEPEST: &str = "6";
+pub(crate) fn deepest<'a>() -> &'a str
+    ensures { result.now ≡ deepest }
+{
+    "6"
+}
 
 /// An option for a number.
 #[derive(Clone, Copy, Debug, Drop, PartialEq, Eq)]

@@ -4,7 +4,7 @@ ghost use Rattle.std.specs.Prelude.{◌≡◌, ◌<◌, ◌^◌, [], false};
 ghost use Rattle.clap.specs.Words.{Text, found_of, rows_of, rule_of};
 ghost use Rattle.tpl_cli.specs.Prelude.{Finds, IsFlag, IsGiven, IsIfGiven, IsWord, flag, flag_name, language_word, named, number_range, numbered, rule_for, style_word, usual};
 
-use crate::number::{DEEPEST, Number};
+use crate::number::{Number, deepest};
 use clap::{Arg, ArgAction, ArgMatches, value_parser};
 use std::alloc::Global;
 use tpl_draw::Language;
@@ -129,7 +129,7 @@ impl CommandOption {
         match self {
             CommandOption::Flag(option) => flag_arg(alloc, option),
             CommandOption::Number(option) => usual_arg(alloc, option),
-            CommandOption::Deepest => number_arg(alloc, Number::Depth).default_value(DEEPEST),
+            CommandOption::Deepest => number_arg(alloc, Number::Depth).default_value(deepest()),
             CommandOption::Language => {
                 let help = "The language of the picture: mermaid or dot";
                 word_arg(alloc, "LANGUAGE", help, "mermaid")

@@ -12,7 +12,7 @@ use std::alloc::{AllocError, Global};
 use std::io::IsTerminal;
 use tpl_analyser::Watch;
 use tpl_commands::{Ask, Audit, Exit, Finding, Found, Listen, check_document};
-use tpl_reader::{Document, Hear, NotRead, ReadFault};
+use tpl_reader::{Document, Hear, LONGEST, NotRead, ReadFault};
 use tpl_reasons::{explain, no_document_text, no_json_text, twice_text};
 
 /// Whether the words ask for reasons.
@@ -121,7 +121,7 @@ impl Listen for Teller<'_> {
     fn unread(self, exit: Exit) {
         if self.explains && exit == Exit::Unreadable {
             let _ = eprint!(self.rt;
-                "the document is longer than 16777216 bytes, the most that is read; --slim makes shorter certificates\n"
+                "the document is longer than {LONGEST} bytes, the most that is read; --slim makes shorter certificates\n"
             );
         }
     }

@@ -58,7 +58,7 @@ fn room_behind_body(task: &DraftTask, room: Room) -> Option<Room>
         (worked (task_of task.now).kind).body ≡ room.sites) }
     ensures levels { IfSome result (λ left. level_count (worked (task_of task.now).kind).body ≤ MOST_LEVELS) }
     ensures exceeds { IfNone result ((room.statements < line_count
-        (worked (task_of task.now).kind).body) ⊎ ((8 < level_count
+        (worked (task_of task.now).kind).body) ⊎ ((MOST_LEVELS < level_count
         (worked (task_of task.now).kind).body) ⊎ (room.sites < site_count
         (worked (task_of task.now).kind).body))) }
 {

@@ -8,6 +8,7 @@ use Rattle.tpl_draft.specs.Named.{antecedent_of, args_of}
 use Rattle.tpl_draw.specs.declared.edge.Tie.{Tie}
 use Rattle.tpl_draw.specs.declared.edge.Tie.TheVariants.{After, Argument, Child, Cancel, Own, Link}
 use Rattle.tpl_draw.specs.declared.edge.Edge.{Edge}
+use Rattle.tpl_draw.specs.declared.edges.TheConstants.{MOST_OWNERS}
 use Rattle.tpl_draw.specs.Below.{below}
 
 -- an edge of this sort, from one number to another
@@ -40,9 +41,9 @@ abbrev pub owners : TaskGraph → ℕ → ℕ → ℕ
 owners g k zero = 0
 owners g k (suc n) = if owns g k n then suc (owners g k n) else owners g k n
 
--- more than eight tasks have the token as their own: it stands at each of them, and not at an edge
+-- more than MOST_OWNERS tasks have the token as their own: it stands at each of them, and not at an edge
 abbrev pub is_crowded : TaskGraph → ℕ → Bool
-is_crowded g k = nat_lt 8 (owners g k (length g.tasks))
+is_crowded g k = nat_lt MOST_OWNERS (owners g k (length g.tasks))
 
 -- a task's own token, where an edge leads to the task
 abbrev pub edge_token : TaskGraph → Option ℕ → Option ℕ

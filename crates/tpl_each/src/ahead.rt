@@ -2,6 +2,7 @@
 
 ghost use Rattle.std.specs.Prelude.{◌≡◌, ◌≤◌, [], true, length, drop, is_err, IfOk, MatchOption, MatchResult};
 ghost use Rattle.std.specs.Io.KnownBytes.{Consumes, IsAtEnd, Keeps};
+ghost use Rattle.tpl_each.specs.declared.ahead.TheConstants.{BLOCK};
 ghost use Rattle.tpl_each.specs.Lines.{IsFirstBreak, IsLine};
 ghost use Rattle.tpl_journal.specs.Prelude.{calls_of, counted, failures_of, remaining_of};
 
@@ -20,7 +21,7 @@ pub(crate) struct Ahead {
     start: usize,
     end: usize,
     ghost ordered: { start ≤ end },
-    ghost within: { end ≤ 4096 },
+    ghost within: { end ≤ BLOCK },
 }
 
 impl Ahead {

@@ -9,7 +9,7 @@ ghost use Rattle.tpl_journal.specs.Prelude.{calls_of, contents_of, counted, fail
 use crate::ahead::Ahead;
 use crate::answering::answer_slots;
 use crate::gathering::{Ends, gather};
-use crate::slot::{Slot, Slots};
+use crate::slot::{MOST_JOBS, Slot, Slots};
 use crate::writing::put_answers;
 use std::alloc::Global;
 use std::io::{Read, Write};
@@ -48,7 +48,7 @@ pub(crate) fn serve_batch<T: Threads + Sync, C: Command + Sync, R: Read, W: Writ
     to: &mut Counting<W>,
 ) -> Result<Batch, WriteFault>
     requires some { 0 < jobs }
-    requires most { jobs ≤ 64 }
+    requires most { jobs ≤ MOST_JOBS }
     requires room { number < 2 ^ 63 }
     ensures served { IfOk result (IsServed (C.answers command.now)
         (coming R.remaining ahead.old from.old) (coming R.remaining ahead.new from.new)

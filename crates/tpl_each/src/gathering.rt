@@ -7,7 +7,7 @@ ghost use Rattle.tpl_journal.specs.Prelude.{calls_of, counted, failures_of};
 
 use crate::ahead::Ahead;
 use crate::next::{Next, next_line};
-use crate::slot::{Slot, Slots};
+use crate::slot::{MOST_JOBS, Slot, Slots};
 use std::alloc::Global;
 use std::io::Read;
 use tpl_journal::Counting;
@@ -33,7 +33,7 @@ pub(crate) fn gather<R: Read>(
     ahead: &mut Ahead,
     from: &mut Counting<R>,
 ) -> Ends
-    requires count { count ≤ 64 }
+    requires count { count ≤ MOST_JOBS }
     requires empty { slots.old.items ≡ [] }
     ensures gathers { Gathers (coming R.remaining ahead.old from.old)
         (coming R.remaining ahead.new from.new) slots.new.items result }

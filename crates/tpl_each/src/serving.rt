@@ -6,6 +6,7 @@ ghost use Rattle.tpl_each.specs.Prelude.{RespondsToEach};
 use crate::ahead::Ahead;
 use crate::batch::serve_batch;
 use crate::gathering::Ends;
+use crate::slot::MOST_JOBS;
 use std::alloc::Global;
 use std::io::{Read, Write};
 use std::thread::Threads;
@@ -47,7 +48,7 @@ pub fn serve_each<T: Threads + Sync, C: Command + Sync, R: Read, W: Write>(
     to: &mut Counting<W>,
 ) -> Exit
     requires some { 0 < jobs }
-    requires most { jobs ≤ 64 }
+    requires most { jobs ≤ MOST_JOBS }
     ensures { RespondsToEach (C.answers command.now) R.remaining from.old from.new
         W.contents to.old to.new result }
 {

@@ -4,14 +4,12 @@ ghost use Rattle.std.specs.Prelude.{◌≡◌, ℕ, ◌<◌, true, false, IfSome
 ghost use Rattle.tpl_model.specs.Prelude.{is_set};
 
 use std::marker::Model;
-use tpl_model::{MOST_TASKS, TaskId};
-
-const WORDS: usize = 16;
+use tpl_model::{MOST_TASKS, SET_WORDS, TaskId, WORD_BITS};
 
 /// A set of tasks with ids below `MOST_TASKS`, a bit for each. Contracts see the words.
 #[derive(Drop)]
 pub(crate) struct Bits {
-    words: [u64; WORDS],
+    words: [u64; SET_WORDS],
 }
 
 impl Model for Bits {
@@ -27,7 +25,9 @@ impl Bits {
     pub fn none() -> Bits
         ensures { (x : ℕ) → is_set result x ≡ false }
     {
-        Bits { words: [0; WORDS] }
+        Bits {
+            words: [0; SET_WORDS],
+        }
     }
 
     /// The task is a member.
@@ -36,7 +36,7 @@ impl Bits {
         ensures { result ≡ is_set self.now task.0 }
     {
         let at = task.0 as usize;
-        (self.words[at / 64] >> (at % 64)) & 1 == 1
+        (self.words[at / WORD_BITS] >> (at % WORD_BITS)) & 1 == 1
     }
 
     fn insert(&mut self, task: TaskId)
@@ -45,7 +45,7 @@ impl Bits {
             else is_set self.old x) }
     {
         let at = task.0 as usize;
-        self.words[at / 64] |= 1 << (at % 64);
+        self.words[at / WORD_BITS] |= 1 << (at % WORD_BITS);
     }
 
     fn remove(&mut self, task: TaskId)
@@ -54,7 +54,7 @@ impl Bits {
             else is_set self.old x) }
     {
         let at = task.0 as usize;
-        self.words[at / 64] &= !(1 << (at % 64));
+        self.words[at / WORD_BITS] &= !(1 << (at % WORD_BITS));
     }
 
     /// Makes the task a member, or no member.
@@ -76,11 +76,11 @@ impl Bits {
             × ((s : ℕ) → s < t.0 → is_set self.now s ≡ false)) }
         ensures none { IfNone result ((s : ℕ) → is_set self.now s ≡ false) }
     {
-        for i in 0..WORDS {
+        for i in 0..SET_WORDS {
             let word = self.words[i];
             if word != 0 {
                 let bit = word.trailing_zeros() as usize;
-                return Some(TaskId((64 * i + bit) as u16));
+                return Some(TaskId((WORD_BITS * i + bit) as u16));
             }
         }
         None

@@ -4,11 +4,11 @@ ghost use Rattle.std.specs.Prelude.{◌≡◌, ◌≤◌, [], None, length, slic
 ghost use Rattle.tpl_journal.specs.ReportText.{task_name};
 
 use tpl_graph::Graph;
-use tpl_model::{Label, LabelId, SiteId, TaskId, TokenId};
+use tpl_model::{LONGEST_NAME, Label, LabelId, SiteId, TaskId, TokenId};
 
 pub(crate) fn name_of(graph: &Graph, task: TaskId) -> &str
     ensures text { result.now ≡ task_name graph.now.names task.0 }
-    ensures short { length result.now ≤ 32 }
+    ensures short { length result.now ≤ LONGEST_NAME }
 {
     graph.valid_law();
     if (task.0 as usize) < graph.len() {
@@ -20,7 +20,7 @@ pub(crate) fn name_of(graph: &Graph, task: TaskId) -> &str
 
 pub(crate) fn token_name(graph: &Graph, token: TokenId) -> &str
     ensures text { result.now ≡ slice_index_or graph.now.names.tokens token.0 [] }
-    ensures short { length result.now ≤ 32 }
+    ensures short { length result.now ≤ LONGEST_NAME }
 {
     graph.valid_law();
     if (token.0 as usize) < graph.token_count() {

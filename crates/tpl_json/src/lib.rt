@@ -15,4 +15,4 @@ pub use members::{
     text_in, text_of, texts_in, texts_of,
 };
 pub use miss::{Miss, Shape, at_number, or_fault};
-pub use read::{NotRead, value_from};
+pub use read::{MOST_NESTED, NotRead, value_from};

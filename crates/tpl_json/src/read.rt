@@ -10,8 +10,8 @@ use crate::number::is_in_range;
 use json::{Error, Reader, Scratch, Value};
 use std::alloc::Global;
 
-/// How deep arrays and objects of a text may nest, as serde_json has it.
-const DEEPEST: usize = 127;
+/// How deep arrays and objects of a text may nest, in levels, as serde_json has it.
+pub const MOST_NESTED: usize = 127;
 
 /// Why bytes were not read.
 #[derive(Clone, Copy, Debug, Drop, PartialEq, Eq)]
@@ -74,7 +74,7 @@ fn text_read<'t>(
     let Ok(mut reader) = Reader::new(text, scratch) else {
         return Err(NotRead::Memory);
     };
-    let value = match Value::read(alloc, &mut reader, DEEPEST) {
+    let value = match Value::read(alloc, &mut reader, MOST_NESTED) {
         Ok(value) => value,
         Err(Error::OutOfMemory) => return Err(NotRead::Memory),
         Err(_) => return Err(NotRead::NotJson(reader.offset())),
@@ -90,7 +90,7 @@ fn text_read<'t>(
 }
 
 /// The value that bytes spell in UTF-8, as serde_json reads them: of several members of one name the last counts, and
-/// arrays and objects nest at most 127 deep. The texts of the value are those of the bytes, and of the scratch where they
+/// arrays and objects nest at most `MOST_NESTED` deep. The texts of the value are those of the bytes, and of the scratch where they
 /// are written with escapes.
 pub fn value_from<'t>(
     alloc: Global,
@@ -98,7 +98,7 @@ pub fn value_from<'t>(
     scratch: &'t mut Scratch,
 ) -> Result<Value<'t>, NotRead>
     ensures ok { IfOk result (λ v. IsUtf8 bytes.now × (read bytes.now ≡ Some (view v))) }
-    ensures nests { IfOk result (λ v. depth (view v) ≤ 127) }
+    ensures nests { IfOk result (λ v. depth (view v) ≤ MOST_NESTED) }
     ensures err { IfErr result (λ e. e ≢ NotRead.Memory → IsUtf8 bytes.now → read bytes.now ≡ None) }
 {
     match std::str::from_utf8(bytes) {

@@ -9,6 +9,7 @@ use Rattle.tpl_model.specs.TaskSet.{passing_from}
 use Rattle.tpl_model.specs.Knowledge.{IsSettled, IsRequested}
 use Rattle.tpl_model.specs.Graph.{TaskGraph, TaskKind, WhenAll, WhenAny, kind, attached, some_in}
 use Rattle.tpl_model.specs.declared.ids.TaskId.{TaskId}
+use Rattle.tpl_model.specs.declared.limits.TheConstants.{MOST_IN_CHAIN}
 use Rattle.tpl_model.specs.declared.claim.Property.{Property}
 use Rattle.tpl_model.specs.declared.claim.Property.TheVariants.{Observed}
 use Rattle.tpl_model.specs.Certificate.{Row, row, end_left, may_end}
@@ -82,9 +83,9 @@ abbrev pub chain_from : TaskGraph → WideAssumed → ℕ → ℕ → ℕ → Li
 chain_from g l y low zero = []
 chain_from g l y low (suc n) = if is_read_after g l low y then chain_after g l low y else chain_from g l y (suc low) n
 
--- the shortest chain of y that the limits allow, of at most 16 tasks
+-- the shortest chain of y that the limits allow, of at most MOST_IN_CHAIN tasks
 abbrev pub shortest_chain : TaskGraph → WideAssumed → ℕ → List ℕ
-shortest_chain g l y = chain_from g l y 0 16
+shortest_chain g l y = chain_from g l y 0 MOST_IN_CHAIN
 
 -- only the task whose exception is to be observed has a chain
 abbrev pub chain_for : TaskGraph → WideAssumed → Property TaskId → ℕ → List ℕ

@@ -2,6 +2,7 @@
 use Rattle.std.specs.Prelude.{◌≡◌, ℕ, zero, suc, ◌+◌, ◌≤◌, ◌<◌, Bool, List, Option, Some, None, length, slice_get, if◌then◌else◌}
 use Rattle.std.specs.Borrow.{Bor}
 use Rattle.tpl_model.specs.declared.body.Stmt.{Stmt}
+use Rattle.tpl_model.specs.declared.limits.TheConstants.{MOST_LEVELS}
 use Rattle.tpl_model.specs.Statements.{Statement, Statements, If, When, Nothing, ◌⨾◌, followed_by}
 use Rattle.tpl_model.specs.Seen.{statements_of}
 use Rattle.tpl_model.specs.Limits.{level_count}
@@ -36,9 +37,9 @@ abbrev pub left_at : List (Bor (List Stmt)) → ℕ → Statements
 left_at levels zero = Nothing
 left_at levels (suc d) = followed_by (level_list (slice_get levels d)) (left_at levels d)
 
--- at most 8 lists are open, and what is left of each nests no deeper than the levels below it allow
+-- at most MOST_LEVELS lists are open, and what is left of each nests no deeper than the levels below it allow
 abbrev pub FitsLevels : List (Bor (List Stmt)) → ℕ → Type 0
-FitsLevels levels depth = (depth ≤ 8) × ((d : ℕ) → d < depth → level_count (level_list (slice_get levels d)) + d ≤ 8)
+FitsLevels levels depth = (depth ≤ MOST_LEVELS) × ((d : ℕ) → d < depth → level_count (level_list (slice_get levels d)) + d ≤ MOST_LEVELS)
 
 -- no list is open, or the innermost one isn't empty
 abbrev pub IsSettled : List (Bor (List Stmt)) → ℕ → Type 0

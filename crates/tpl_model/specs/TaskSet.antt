@@ -1,7 +1,7 @@
--- Sets of tasks as lists of their numbers in ascending order, and as words of 64 bits.
+-- Sets of tasks as lists of their numbers in ascending order, and as words of WORD_BITS bits.
 use Rattle.std.specs.Prelude.{◌≡◌, ℕ, zero, suc, ◌*◌, ◌/◌, ◌%◌, ◌<◌, ◌≤◌, Bool, true, ◌==◌, List, [], ◌∷◌, length, slice_index, if◌then◌else◌}
 use Rattle.std.specs.Int.{bit_at}
-use Rattle.tpl_model.specs.declared.limits.TheConstants.{MOST_TASKS}
+use Rattle.tpl_model.specs.declared.limits.TheConstants.{MOST_TASKS, WORD_BITS}
 use Rattle.tpl_model.specs.Members.{mem}
 
 -- a list of numbers in ascending order, none twice, from low on and below high
@@ -23,7 +23,7 @@ SetsAreTheirMembers = (xs ys : List ℕ) → IsTaskSet xs → IsTaskSet ys → (
 
 -- the bit of a number is set
 abbrev pub is_set : List ℕ → ℕ → Bool
-is_set words x = bit_at (slice_index words (x / 64)) (x % 64) == 1
+is_set words x = bit_at (slice_index words (x / WORD_BITS)) (x % WORD_BITS) == 1
 
 -- of n numbers from low on, those that pass the test
 abbrev pub passing_from : (ℕ → Bool) → ℕ → ℕ → List ℕ
@@ -32,4 +32,4 @@ passing_from test low (suc n) = if test low then (low ∷ passing_from test (suc
 
 -- the numbers whose bits are set
 unfoldable pub members_of : List ℕ → List ℕ
-members_of words = passing_from (is_set words) 0 (64 * length words)
+members_of words = passing_from (is_set words) 0 (WORD_BITS * length words)

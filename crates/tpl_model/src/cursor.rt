@@ -5,10 +5,12 @@ ghost use Rattle.tpl_model.specs.Prelude.{BeginsWith, Nothing, behind, behind_ch
 ghost use Rattle.tpl_model.specs.Cursor.{IsSettled};
 
 use crate::body::{Body, Stmt};
+use crate::limits::MOST_LEVELS;
 use crate::script::Script;
 use std::marker::Model;
 
-const LEVELS: usize = 8;
+/// `MOST_LEVELS`, as a length.
+const LEVELS: usize = MOST_LEVELS as usize;
 
 /// What is left of a script while it runs. It borrows the script, and keeps what is left of each
 /// list of statements that it stands in, the outermost first.

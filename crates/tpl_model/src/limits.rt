@@ -1,4 +1,4 @@
-//! The limits of a graph and of its runs. They are this program's own.
+//! The limits of a graph, its claims, its runs and its certificates. They are this program's own.
 
 /// The most tasks of a graph.
 pub const MOST_TASKS: u16 = 1024;
@@ -32,3 +32,24 @@ pub const MOST_OUTSIDE: u8 = 8;
 
 /// The most events of a run.
 pub const MOST_EVENTS: usize = 69_664;
+
+/// The most claims of a document of version 3.
+pub const MOST_CLAIMS: usize = 1024;
+
+/// The most claims of a document of version 1 or 2.
+pub const MOST_EARLY_CLAIMS: usize = 64;
+
+/// The longest name of a claim, in bytes.
+pub const LONGEST_CLAIM_NAME: usize = 100;
+
+/// The most splits on a path of a certificate tree.
+pub const MOST_SPLITS: u8 = 6;
+
+/// The most tasks in a chain of a certificate.
+pub const MOST_IN_CHAIN: usize = 16;
+
+/// The bits of a word of a set of tasks.
+pub const WORD_BITS: usize = 64;
+
+/// The words of a set of tasks, with a bit for each.
+pub const SET_WORDS: usize = MOST_TASKS as usize / WORD_BITS;

@@ -9,8 +9,8 @@ use crate::same::same_body;
 use crate::{MOST_LEVELS, MOST_STATEMENTS};
 use std::marker::Model;
 
-/// A body within the limits: at most 64 statements, nested ones counted, and at most 8 levels
-/// (the limits are this program's own).
+/// A body within the limits: at most `MOST_STATEMENTS` statements, nested ones counted, and at most
+/// `MOST_LEVELS` levels (the limits are this program's own).
 #[derive(Drop)]
 pub struct Script {
     body: Body,
@@ -45,7 +45,7 @@ impl Script {
         }
     }
 
-    /// How many statements it has, nested ones counted: at most 64.
+    /// How many statements it has, nested ones counted: at most `MOST_STATEMENTS`.
     pub fn size(&self) -> u8
         ensures { result ≡ statement_count self.now }
     {

@@ -4,16 +4,14 @@ ghost use Rattle.std.specs.Prelude.{◌≡◌, ℕ, ◌<◌, ◌↔◌, ◌||◌
 ghost use Rattle.tpl_model.specs.Prelude.{IsSubset, IsTaskSet, SetsAreTheirMembers, mem};
 
 use crate::ids::TaskId;
-use crate::limits::MOST_TASKS;
+use crate::limits::{MOST_TASKS, SET_WORDS, WORD_BITS};
 use std::marker::Model;
-
-const WORDS: usize = 16;
 
 /// A set of tasks with ids below `MOST_TASKS`, 128 bytes long. Contracts see the list of its
 /// members' numbers in ascending order.
 #[derive(Drop)]
 pub struct TaskSet {
-    words: [u64; WORDS],
+    words: [u64; SET_WORDS],
 }
 
 impl Model for TaskSet {
@@ -30,7 +28,9 @@ impl TaskSet {
     pub fn empty() -> TaskSet
         ensures { result ≡ [] }
     {
-        TaskSet { words: [0; WORDS] }
+        TaskSet {
+            words: [0; SET_WORDS],
+        }
     }
 
     /// A copy.
@@ -47,7 +47,7 @@ impl TaskSet {
         ensures set { IsTaskSet self.now }
     {
         let at = task.0 as usize;
-        at / 64 < WORDS && (self.words[at / 64] >> (at % 64)) & 1 == 1
+        at / WORD_BITS < SET_WORDS && (self.words[at / WORD_BITS] >> (at % WORD_BITS)) & 1 == 1
     }
 
     /// Makes the task a member, if it isn't one.
@@ -57,7 +57,7 @@ impl TaskSet {
         ensures set { IsTaskSet self.new }
     {
         let at = task.0 as usize;
-        self.words[at / 64] |= 1 << (at % 64);
+        self.words[at / WORD_BITS] |= 1 << (at % WORD_BITS);
     }
 
     /// The members of either.
@@ -65,8 +65,8 @@ impl TaskSet {
         ensures members { (x : ℕ) → mem x result ≡ (mem x self.now || mem x other.now) }
         ensures set { IsTaskSet result }
     {
-        let mut words = [0; WORDS];
-        for i in 0..WORDS {
+        let mut words = [0; SET_WORDS];
+        for i in 0..SET_WORDS {
             words[i] = self.words[i] | other.words[i];
         }
         TaskSet { words }
@@ -77,8 +77,8 @@ impl TaskSet {
         ensures members { (x : ℕ) → mem x result ≡ (mem x self.now && mem x other.now) }
         ensures set { IsTaskSet result }
     {
-        let mut words = [0; WORDS];
-        for i in 0..WORDS {
+        let mut words = [0; SET_WORDS];
+        for i in 0..SET_WORDS {
             words[i] = self.words[i] & other.words[i];
         }
         TaskSet { words }
@@ -89,7 +89,7 @@ impl TaskSet {
         ensures subset { IsTrue result ↔ IsSubset self.now other.now }
         ensures sets { IsTaskSet self.now × IsTaskSet other.now }
     {
-        for i in 0..WORDS {
+        for i in 0..SET_WORDS {
             if self.words[i] & other.words[i] != self.words[i] {
                 return false;
             }
@@ -110,12 +110,12 @@ impl TaskSet {
             × (self.new ≡ [])) (λ t. self.old ≡ t.0 ∷ self.new) }
         ensures set { IsTaskSet self.old }
     {
-        for i in 0..WORDS {
+        for i in 0..SET_WORDS {
             let word = self.words[i];
             if word != 0 {
                 let bit = word.trailing_zeros() as usize;
                 self.words[i] = word & !(1 << bit);
-                return Some(TaskId((64 * i + bit) as u16));
+                return Some(TaskId((WORD_BITS * i + bit) as u16));
             }
         }
         None

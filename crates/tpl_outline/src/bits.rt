@@ -1,42 +1,42 @@
 //! Sets of tasks that serve a search alone.
 
-use tpl_model::{MOST_TASKS, TaskId};
-
-pub(crate) const WORDS: usize = 16;
+use tpl_model::{MOST_TASKS, SET_WORDS, TaskId, WORD_BITS};
 
 /// A set of tasks with ids below `MOST_TASKS`, a bit for each. It decides what a search finds, and
 /// nothing that is promised of it: so no clause speaks of its members.
 #[derive(Clone, Copy)]
 pub(crate) struct Bits {
-    pub(crate) words: [u64; WORDS],
+    pub(crate) words: [u64; SET_WORDS],
 }
 
 impl Bits {
     /// The set without members.
     pub(crate) fn none() -> Bits {
-        Bits { words: [0; WORDS] }
+        Bits {
+            words: [0; SET_WORDS],
+        }
     }
 
     /// The set of all tasks.
     pub(crate) fn all() -> Bits {
         Bits {
-            words: [u64::MAX; WORDS],
+            words: [u64::MAX; SET_WORDS],
         }
     }
 
     /// The task is a member. None from `MOST_TASKS` on is.
     pub(crate) fn has(&self, task: TaskId) -> bool {
         let at = task.0 as usize;
-        at < MOST_TASKS as usize && (self.words[at / 64] >> (at % 64)) & 1 == 1
+        at < MOST_TASKS as usize && (self.words[at / WORD_BITS] >> (at % WORD_BITS)) & 1 == 1
     }
 
     /// Makes the task a member, or no member.
     pub(crate) fn put(&mut self, task: TaskId, member: bool) {
         let at = task.0 as usize;
         if at < MOST_TASKS as usize {
-            let bit = 1u64 << (at % 64);
-            let others = self.words[at / 64] & !bit;
-            self.words[at / 64] = if member { others | bit } else { others };
+            let bit = 1u64 << (at % WORD_BITS);
+            let others = self.words[at / WORD_BITS] & !bit;
+            self.words[at / WORD_BITS] = if member { others | bit } else { others };
         }
     }
 
@@ -54,7 +54,7 @@ impl Bits {
 
     /// Makes the members of the other set members of this one too.
     pub(crate) fn add(&mut self, other: &Bits) {
-        for at in 0..WORDS {
+        for at in 0..SET_WORDS {
             self.words[at] |= other.words[at];
         }
     }
@@ -62,7 +62,7 @@ impl Bits {
     /// The members that aren't in the other set.
     pub(crate) fn without(&self, other: &Bits) -> Bits {
         let mut left = *self;
-        for at in 0..WORDS {
+        for at in 0..SET_WORDS {
             left.words[at] &= !other.words[at];
         }
         left
@@ -70,7 +70,7 @@ impl Bits {
 
     /// The two have a member in common.
     pub(crate) fn meets(&self, other: &Bits) -> bool {
-        for at in 0..WORDS {
+        for at in 0..SET_WORDS {
             if self.words[at] & other.words[at] != 0 {
                 return true;
             }
@@ -80,7 +80,7 @@ impl Bits {
 
     /// Each member is one of the other set.
     pub(crate) fn is_within(&self, other: &Bits) -> bool {
-        for at in 0..WORDS {
+        for at in 0..SET_WORDS {
             if self.words[at] & !other.words[at] != 0 {
                 return false;
             }
@@ -93,6 +93,6 @@ impl Bits {
         let at = self.words.iter().position(|word| *word != 0)?;
         let bit = self.words[at].trailing_zeros() as usize;
         self.words[at] &= !(1 << bit);
-        Some(TaskId((64 * at + bit) as u16))
+        Some(TaskId((WORD_BITS * at + bit) as u16))
     }
 }

@@ -6,8 +6,7 @@ ghost use Rattle.tpl_model.specs.Prelude.{is_task};
 use crate::bits::Bits;
 use crate::setting::Setting;
 use std::alloc::{AllocError, Global};
-use tpl_model::{Final, Finals, MOST_TASKS, TaskId};
-use tpl_trees::MOST_IN_CHAIN;
+use tpl_model::{Final, Finals, MOST_IN_CHAIN, MOST_TASKS, TaskId};
 
 /// A task that carries the exception over.
 #[derive(Clone, Copy)]

@@ -10,8 +10,8 @@ use crate::pass::whole_outline;
 use crate::rows::{Parts, rows};
 use crate::setting::Setting;
 use std::alloc::{AllocError, Global};
-use tpl_model::{Property, TaskId, TaskSet};
-use tpl_trees::{MOST_IN_CHAIN, Row};
+use tpl_model::{MOST_IN_CHAIN, Property, TaskId, TaskSet};
+use tpl_trees::Row;
 
 /// The chain of the observed task, or an empty one, if the least rows prove the property with it.
 /// The outline and the tasks are those that bear on the property.

@@ -44,7 +44,7 @@ pub struct Fate {
 /// What may become of each task of a graph, 8 kilobytes long.
 #[derive(Drop)]
 pub struct Outline {
-    fates: [Fate; 1024],
+    fates: [Fate; MOST_TASKS as usize],
     /// How the tasks may end once more, by the way in which they do.
     ways: Ways,
 }
@@ -55,7 +55,7 @@ impl Outline {
         ensures { (t : ℕ) → fate_of result t ≡ unsettled }
     {
         Outline {
-            fates: [UNSETTLED; 1024],
+            fates: [UNSETTLED; MOST_TASKS as usize],
             ways: Ways::none(),
         }
     }
@@ -70,12 +70,16 @@ impl Outline {
         }
     }
 
-    /// What may become of the task. No task from the 1024th on may begin or end.
+    /// What may become of the task. No task from `MOST_TASKS` on may begin or end.
     pub fn fate(&self, task: TaskId) -> Fate
         ensures { result ≡ fate_of self.now task.0 }
     {
         let at = task.0 as usize;
-        if at < 1024 { self.fates[at] } else { UNSETTLED }
+        if at < MOST_TASKS as usize {
+            self.fates[at]
+        } else {
+            UNSETTLED
+        }
     }
 
     /// Sets what may become of the task.

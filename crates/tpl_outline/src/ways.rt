@@ -1,8 +1,8 @@
 //! Which tasks may end in each way.
 
-use crate::bits::{Bits, WORDS};
+use crate::bits::Bits;
 use tpl_checker::some_end;
-use tpl_model::{Finals, TaskId};
+use tpl_model::{Finals, SET_WORDS, TaskId};
 
 /// The tasks that may end in each way: what many tasks have in common is read off in a few steps.
 #[derive(Clone, Copy)]
@@ -32,7 +32,7 @@ impl Ways {
     /// How one of the tasks ends.
     pub(crate) fn of_one(&self, tasks: &Bits) -> Finals {
         let (mut ran, mut canceled, mut faulted) = (0u64, 0u64, 0u64);
-        for at in 0..WORDS {
+        for at in 0..SET_WORDS {
             let tasks = tasks.words[at];
             ran |= tasks & self.ran.words[at];
             canceled |= tasks & self.canceled.words[at];
@@ -51,7 +51,7 @@ impl Ways {
         let (mut canceled, mut faulted) = (0u64, 0u64);
         // those that can't run to completion, can only be faulted, and can't end at all
         let (mut failing, mut faulting, mut stuck) = (0u64, 0u64, 0u64);
-        for at in 0..WORDS {
+        for at in 0..SET_WORDS {
             let tasks = tasks.words[at];
             let ran = self.ran.words[at];
             let no_fault = ran | self.canceled.words[at];
@@ -72,7 +72,7 @@ impl Ways {
     /// Those of the tasks that may end.
     pub(crate) fn ending(&self, tasks: &Bits) -> Bits {
         let mut ending = *tasks;
-        for at in 0..WORDS {
+        for at in 0..SET_WORDS {
             ending.words[at] &= self.ran.words[at]
                 | self.canceled.words[at]
                 | self.faulted.words[at];

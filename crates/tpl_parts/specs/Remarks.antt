@@ -5,11 +5,12 @@ use Rattle.std.specs.List.{list_any}
 use Rattle.std.specs.Str.{chars}
 use Rattle.serde_json.specs.Data.{Data}
 use Rattle.serde_json.specs.Find.{as_str}
+use Rattle.tpl_model.specs.declared.limits.TheConstants.{LONGEST_CLAIM_NAME}
 use Rattle.tpl_json.specs.Members.{◌>>=◌, ◌<$>◌, only_if}
 
--- the name of a claim: 1 to 100 bytes of text without a control character
+-- the name of a claim: 1 to LONGEST_CLAIM_NAME bytes of text without a control character
 abbrev pub is_claim_name : List ℕ → Bool
-is_claim_name name = (nat_lt 0 (length name) && nat_le (length name) 100) && not (list_any is_control (chars name))
+is_claim_name name = (nat_lt 0 (length name) && nat_le (length name) LONGEST_CLAIM_NAME) && not (list_any is_control (chars name))
 
 -- a claim may have a name
 unfoldable pub claim_name : Option Data → Option (Option (List ℕ))

@@ -6,6 +6,7 @@ use Rattle.bitflags.specs.Sets.{find_name}
 use Rattle.serde_json.specs.Data.{Data, string, object}
 use Rattle.serde_json.specs.Find.{get, as_str}
 use Rattle.tpl_model.specs.Options.{words}
+use Rattle.tpl_json.specs.declared.read.TheConstants.{MOST_NESTED}
 use Rattle.tpl_json.specs.Members.{◌>>=◌, ◌<$>◌, ◌<*>◌, object_of, text_in, list_in, list_or_none, each}
 use Rattle.tpl_draft.specs.Draft.{Worked, Kind, Root, Child, Continues, WhenAll, WhenAny, Task, Token}
 use Rattle.tpl_parts.specs.declared.version.Version.{Version}
@@ -29,10 +30,10 @@ text_or_none (Some d) = (λ text. Some text) <$> as_str d
 
 -- ---- tasks
 
--- what a task with a body has; no text of JSON nests deeper than 127
+-- what a task with a body has; no text of JSON nests deeper than MOST_NESTED
 unfoldable pub work_at : Data → Option Worked
 work_at d = do
-  body ← get (codes "body") d >>= body_at 127
+  body ← get (codes "body") d >>= body_at MOST_NESTED
   token ← text_or_none (get (codes "token") d)
   options ← list_or_none (get (codes "options") d) >>= options_at 0
   Some (record { body = body; token = token; options = options })

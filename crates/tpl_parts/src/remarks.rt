@@ -10,9 +10,7 @@ ghost use Rattle.tpl_parts.specs.Prelude.{claim_name, claim_remarks, is_claim_na
 use crate::version::Version;
 use json::Value;
 use tpl_json::{Miss, Shape, find, text_of};
-
-/// The most bytes of a claim's name (this program's own limit).
-const LONGEST_CLAIM_NAME: usize = 100;
+use tpl_model::LONGEST_CLAIM_NAME;
 
 fn is_one_of(names: &[&str], key: &str) -> bool
     ensures { result ≡ is_one_of (map (λ s. s.now) names.now) key.now }
@@ -75,7 +73,8 @@ fn has_control(text: &str) -> bool
     text.chars().any(|letter| letter.is_control())
 }
 
-/// Whether the text can be the name of a claim: 1 to 100 bytes, and no control character.
+/// Whether the text can be the name of a claim: 1 to `LONGEST_CLAIM_NAME` bytes, and no
+/// control character.
 fn is_claim_name(name: &str) -> bool
     ensures { result ≡ is_claim_name name.now }
 {

@@ -1,6 +1,6 @@
 //! Reading tasks and tokens.
 
-ghost use Rattle.std.specs.Prelude.{map, string_bytes, IfErr, option_map};
+ghost use Rattle.std.specs.Prelude.{◌≡◌, map, string_bytes, IfErr, IfOk, option_map};
 ghost use Rattle.serde_json.specs.Find.{get};
 ghost use Rattle.tpl_draft.specs.Prelude.{kind_of, task_of, work_of};
 ghost use Rattle.tpl_draft.specs.SeenTasks.{token_of};
@@ -13,10 +13,11 @@ use crate::remarks::{has_task_members, note_of};
 use crate::statements::body_of;
 use crate::version::Version;
 use json::Value;
-use std::alloc::Global;
+use std::alloc::{AllocError, Global};
 use tpl_graph::{DraftKind, DraftTask, DraftToken, DraftWork};
 use tpl_json::{
-    Miss, Shape, find, has_only, list_or_none, member_in, owned_texts, text_in, text_of,
+    MOST_NESTED, Miss, Shape, find, has_only, list_or_none, member_in, owned_texts, text_in,
+    text_of,
 };
 use tpl_model::Options;
 
@@ -66,7 +67,7 @@ fn work_of<'v, 't>(alloc: Global, value: &'v Value<'t>) -> Result<DraftWork, Mis
     ensures { Gives work_of result (work_at (view value.now)) }
 {
     let list = member_in(value, "body")?;
-    let body = body_of(alloc, 127, list)?;
+    let body = body_of(alloc, MOST_NESTED as u32, list)?;
     let token = text_or_none(alloc, value, "token")?;
     let words = list_or_none(value, "options")?;
     let options = options_of(words)?;
@@ -188,8 +189,8 @@ fn linked_of<'v, 't>(alloc: Global, value: &'v Value<'t>) -> Result<DraftToken, 
 }
 
 #[tactic(auto, unfolding(crate::specs::Tasks::plain_at))]
-fn plain_of<'v, 't>(alloc: Global, name: &'v str) -> Result<DraftToken, Miss<Shape<'v, 't>>>
-    ensures { Gives token_of result (Some (plain_at name.now)) }
+fn plain_of(alloc: Global, name: &str) -> Result<DraftToken, AllocError>
+    ensures { IfOk result (λ token. token_of token ≡ plain_at name.now) }
 {
     let name = String::from_str(alloc, name)?;
     Ok(DraftToken { name, linked: None })
@@ -206,7 +207,7 @@ pub fn token_of<'v, 't>(
     ensures { Gives token_of result (token_at links (view value.now)) }
 {
     match value {
-        Value::String(name) => plain_of(alloc, name),
+        Value::String(name) => Ok(plain_of(alloc, name)?),
         Value::Object(_) => {
             if links {
                 linked_of(alloc, value)

@@ -3,6 +3,7 @@ use Rattle.std.specs.Prelude.{ℕ, zero, suc, ◌+◌, ◌-◌, ◌||◌, Bool, 
 use Rattle.std.specs.List.{list_any}
 use Rattle.std.specs.Str.{bytes_eq}
 use Rattle.tpl_model.specs.declared.ids.TaskId.{TaskId}
+use Rattle.tpl_model.specs.declared.limits.TheConstants.{MOST_CLAIMS, MOST_EARLY_CLAIMS}
 use Rattle.tpl_model.specs.declared.ids.TokenId.{TokenId}
 use Rattle.tpl_model.specs.declared.ids.InputId.{InputId}
 use Rattle.tpl_model.specs.declared.ids.SiteId.{SiteId}
@@ -130,9 +131,9 @@ claims_in g claims = each_from (claim_among g claims) 1 claims
 
 -- the most claims of a document
 abbrev pub most_claims : Version → ℕ
-most_claims One = 64
-most_claims Two = 64
-most_claims Three = 1024
+most_claims One = MOST_EARLY_CLAIMS
+most_claims Two = MOST_EARLY_CLAIMS
+most_claims Three = MOST_CLAIMS
 
 -- the claims of a document; the first past the most is one too many
 unfoldable pub claims_for : Version → Named → List NamedClaim → Result (List Claim) (ℕ × ClaimFault)

@@ -18,6 +18,6 @@ pub use fault::{ClaimFault, Part, ReadFault, StartFault};
 pub use hear::{Hear, Misread, Unheard};
 pub use laws::{certificate_is_read_back, one_document};
 pub use read::{LONGEST, most_claims, read_document, read_document_heard};
-pub use top::top_shape;
+pub use top::{top_shape, version_of};
 pub use tpl_json::NotRead;
 pub use tpl_parts::Version;

@@ -23,7 +23,7 @@ use json::{Scratch, Value};
 use std::alloc::Global;
 use tpl_graph::{Claim, Graph};
 use tpl_json::{Miss, NotRead, value_from};
-use tpl_model::{Final, TaskId};
+use tpl_model::{Final, MOST_CLAIMS, MOST_EARLY_CLAIMS, TaskId};
 use tpl_parts::{NamedClaim, Version};
 use tpl_trees::{Certificate, WideCertificate};
 
@@ -35,8 +35,8 @@ pub fn most_claims(version: Version) -> usize
     ensures { result ≡ most_claims version }
 {
     match version {
-        Version::One | Version::Two => 64,
-        Version::Three => 1_024,
+        Version::One | Version::Two => MOST_EARLY_CLAIMS,
+        Version::Three => MOST_CLAIMS,
     }
 }
 

@@ -57,8 +57,9 @@ fn version_in(number: u64) -> Option<Version>
     }
 }
 
+/// The version that a document's member "version" names: 1, 2 or 3. Any other value has the wrong shape.
 #[tactic(auto, unfolding(crate::specs::Top::version_at))]
-fn version_of<'v, 't>(value: &'v Value<'t>) -> Result<Version, Miss<Shape<'v, 't>>>
+pub fn version_of<'v, 't>(value: &'v Value<'t>) -> Result<Version, Miss<Shape<'v, 't>>>
     ensures gives { Gives (λ v. v) result (version_at (view value.now)) }
     ensures shape { IfErr result IsShape }
 {

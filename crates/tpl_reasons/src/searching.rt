@@ -12,9 +12,8 @@ use std::alloc::{AllocError, Global};
 use tpl_analyser::{Budget, Depth, Form, Gap, Leaves, RanOut, Unwatched};
 use tpl_commands::{Outcome, Searched, find_proof, rules_of};
 use tpl_graph::{Claim, Graph};
-use tpl_model::RuleSet;
+use tpl_model::{MOST_SPLITS, RuleSet};
 use tpl_reader::Document;
-use tpl_trees::MOST_SPLITS;
 
 /// Why no certificate was found: the claim that the answer names, if it names one.
 pub(crate) fn search_reason(document: &Document, searched: &Searched) -> Option<Reason>
@@ -69,6 +68,11 @@ fn each_text(alloc: Global, document: &Document, depth: Depth, missed: usize) ->
     Ok(lines)
 }
 
+/// A number of some thousands, with a comma before the last three digits.
+fn thousands_text(alloc: Global, number: u32) -> Result<String, AllocError> {
+    format!(in alloc; "{},{:03}", number / 1_000, number % 1_000)
+}
+
 /// What was tried for a claim that isn't certified, and what ran out. Out of memory is the only error.
 pub fn tried_words(alloc: Global, depth: Depth, ran_out: RanOut) -> Result<String, AllocError> {
     if depth.splits() == 0 {
@@ -80,21 +84,24 @@ pub fn tried_words(alloc: Global, depth: Depth, ran_out: RanOut) -> Result<Strin
             String::from_str(alloc, "no tree proves it, however many splits it has")
         }
         RanOut::Leaves => format!(in alloc;
-            "no tree with at most {splits} on each path was found within 100,000 leaves in order and 20,000 in a directed search"
+            "no tree with at most {splits} on each path was found within {} leaves in order and {} in a directed search",
+            thousands_text(alloc, Leaves::USUAL.in_order)?,
+            thousands_text(alloc, Leaves::USUAL.directed)?
         ),
         RanOut::Depth => format!(in alloc; "no tree with at most {splits} on each path proves it"),
     }
 }
 
 /// What may be tried next for a claim.
-fn next_text(ran_out: RanOut, depth: Depth) -> &'static str {
+fn next_text(alloc: Global, ran_out: RanOut, depth: Depth) -> Said {
     match ran_out {
-        RanOut::Depth if depth.splits() < MOST_SPLITS => {
-            "a claim that isn't found may be true: try a greater `--depth`, at most 6, or `refute`, which looks for a run in which a claim fails\n"
-        }
-        _ => {
-            "a claim that isn't found may be true: `refute` looks for a run in which a claim fails\n"
-        }
+        RanOut::Depth if depth.splits() < MOST_SPLITS => format!(in alloc;
+            "a claim that isn't found may be true: try a greater `--depth`, at most {MOST_SPLITS}, or `refute`, which looks for a run in which a claim fails\n"
+        ),
+        _ => String::from_str(
+            alloc,
+            "a claim that isn't found may be true: `refute` looks for a run in which a claim fails\n",
+        ),
     }
 }
 
@@ -116,7 +123,7 @@ fn missed_text(
         None => String::new(alloc),
     };
     let each = each_text(alloc, document, depth, number)?;
-    let next = next_text(ran_out, depth);
+    let next = next_text(alloc, ran_out, depth)?;
     format!(in alloc; "{claim}: {tried}\n{obstacle}{each}{next}")
 }
 

@@ -2,10 +2,7 @@
 
 use std::alloc::{AllocError, Global};
 use tpl_journal::{JournalFault, read_journal};
-use tpl_reader::Document;
-
-/// How many bytes a long text has.
-const LONG: usize = 16_777_216;
+use tpl_reader::{Document, LONGEST};
 
 /// A line, repeated, and then what follows.
 fn repeated(alloc: Global, line: &str, times: usize, last: &str) -> Result<String, AllocError> {
@@ -32,9 +29,9 @@ fn text_of(alloc: Global, times: &str, line: &str, last: &str) -> Result<String,
     match times.parse::<usize>() {
         Ok(times) => repeated(alloc, line, times, last),
         Err(_) if times == "long" => {
-            repeated(alloc, line, LONG / line.len().saturating_add(1), last)
+            repeated(alloc, line, LONGEST / line.len().saturating_add(1), last)
         }
-        Err(_) => line.repeat(alloc, LONG / line.len().max(1)),
+        Err(_) => line.repeat(alloc, LONGEST / line.len().max(1)),
     }
 }
 

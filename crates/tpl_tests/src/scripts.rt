@@ -3,15 +3,13 @@
 use std::alloc::{AllocError, Global};
 use tpl_graph::Graph;
 use tpl_model::{
-    Cursor, Final, Finals, InputId, MOST_SITES, Possible, Script, Stmt, TaskId, TokenId, Verdict,
-    Verdicts, View, may, may_start, may_start_all, must_observe,
+    Cursor, Final, Finals, InputId, MOST_INPUTS, MOST_SITES, MOST_STATEMENTS, MOST_TOKENS,
+    Possible, Script, Stmt, TaskId, TokenId, Verdict, Verdicts, View, may, may_start,
+    may_start_all, must_observe,
 };
 
 /// The body that is asked about is this task's.
 const SUBJECT: &str = "X";
-
-/// No body has more statements.
-const MOST_STATEMENTS: usize = 64;
 
 /// Nothing is known but the task's own token: no token is quiet, each input may have both values, what it continues may
 /// have ended in any way, and each job may fail.
@@ -20,8 +18,8 @@ fn open_view(graph: &Graph, task: TaskId) -> View {
         inputs: [Possible {
             on_true: true,
             on_false: true,
-        }; 16],
-        quiet: [false; 32],
+        }; MOST_INPUTS],
+        quiet: [false; MOST_TOKENS],
         own: own_token(graph, task),
         subject: Finals {
             ran: true,

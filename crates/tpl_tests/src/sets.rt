@@ -1,7 +1,7 @@
 //! What is answered to sets of tasks and of ends, and to inputs.
 
 use std::alloc::{AllocError, Global};
-use tpl_model::{Final, Finals, InputId, Inputs, MOST_TASKS, TaskId, TaskSet};
+use tpl_model::{Final, Finals, InputId, Inputs, MOST_INPUTS, MOST_TASKS, TaskId, TaskSet};
 
 /// The set of the tasks of these numbers; others are left out.
 fn tasks_of(words: &str) -> TaskSet {
@@ -89,7 +89,7 @@ fn ends_answer(alloc: Global, left: &str, right: &str) -> Result<String, AllocEr
 
 /// This many inputs, one of which is true.
 fn inputs_of(count: u8, set: u8) -> Inputs {
-    let mut inputs = Inputs::new(count.min(16) as usize);
+    let mut inputs = Inputs::new((count as usize).min(MOST_INPUTS));
     if (set as usize) < inputs.len() {
         inputs.set(InputId(set), true);
     }

@@ -105,8 +105,11 @@ fn tell_sites(text: &mut String, graph: &Graph) -> Result<(), AllocError> {
     Ok(())
 }
 
+/// Of more labels than these none are told.
+const MOST_TOLD: usize = 256;
+
 fn tell_labels(text: &mut String, graph: &Graph) -> Result<(), AllocError> {
-    for number in 0..graph.label_count().min(256) {
+    for number in 0..graph.label_count().min(MOST_TOLD) {
         let name = graph.label_name(LabelId(number as u16));
         write!(text, "\n  label {name}")?;
     }

@@ -1,7 +1,7 @@
 -- How deep a tree splits, and how long its chains are.
 use Rattle.std.specs.Prelude.{ℕ, ◌≤◌, suc, max, length}
 use Rattle.std.specs.List.{All}
-use Rattle.tpl_trees.specs.declared.limits.TheConstants.{MOST_IN_CHAIN, MOST_SPLITS}
+use Rattle.tpl_model.specs.declared.limits.TheConstants.{MOST_IN_CHAIN, MOST_SPLITS}
 use Rattle.tpl_model.specs.Certificate.{Row, Tree, SplitInput, SplitEnd, Leaf}
 
 -- the splits above the deepest leaf

@@ -1,7 +1,7 @@
 -- How deep a tree splits whose rows speak of tokens too, and how long its chains are.
 use Rattle.std.specs.Prelude.{ℕ, ◌≤◌, ◌&&◌, suc, max, length, Bool, true, nat_le}
 use Rattle.std.specs.List.{All, list_all}
-use Rattle.tpl_trees.specs.declared.limits.TheConstants.{MOST_IN_CHAIN, MOST_SPLITS}
+use Rattle.tpl_model.specs.declared.limits.TheConstants.{MOST_IN_CHAIN, MOST_SPLITS}
 use Rattle.tpl_model.specs.WiderRules.{WideRow, WideTree, OnInput, OnEnd, OnWinner, WideLeaf, LeastLeaf}
 
 -- the splits above the deepest leaf
@@ -29,7 +29,7 @@ IsWithinWideLimits tree = (wide_height tree ≤ MOST_SPLITS) × HasShortWideChai
 
 -- the same, as a test
 abbrev pub has_short_chain : WideRow → Bool
-has_short_chain r = nat_le (length r.row.chain) 16
+has_short_chain r = nat_le (length r.row.chain) MOST_IN_CHAIN
 
 abbrev pub has_short_chains : WideTree → Bool
 has_short_chains (OnInput i on_true on_false) = has_short_chains on_true && has_short_chains on_false
@@ -39,4 +39,4 @@ has_short_chains (WideLeaf rows) = list_all has_short_chain rows
 has_short_chains LeastLeaf = true
 
 abbrev pub is_within_limits : WideTree → Bool
-is_within_limits tree = nat_le (wide_height tree) 6 && has_short_chains tree
+is_within_limits tree = nat_le (wide_height tree) MOST_SPLITS && has_short_chains tree

@@ -11,7 +11,7 @@ mod wide_row;
 mod wide_tree;
 
 pub use certificate::Certificate;
-pub use limits::{MOST_IN_CHAIN, MOST_SPLITS, is_within_limits};
+pub use limits::is_within_limits;
 pub use row::Row;
 pub use tree::{Node, Tree};
 pub use wide_certificate::WideCertificate;

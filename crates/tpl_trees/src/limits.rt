@@ -1,4 +1,4 @@
-//! The limits of certificate trees.
+//! Whether certificate trees are within the limits.
 
 ghost use Rattle.std.specs.Prelude.{◌≡◌, ◌≤◌, ◌↔◌, IsTrue, All};
 ghost use Rattle.tpl_model.specs.Prelude.{as_wide_tree};
@@ -6,12 +6,7 @@ ghost use Rattle.tpl_trees.specs.Prelude.{HasShortChain, HasShortChains, IsWithi
 
 use crate::row::Row;
 use crate::tree::{Node, Tree};
-
-/// The most splits on a path of a certificate tree (this program's own limit).
-pub const MOST_SPLITS: u8 = 6;
-
-/// The most tasks in a chain (this program's own limit).
-pub const MOST_IN_CHAIN: usize = 16;
+use tpl_model::{MOST_IN_CHAIN, MOST_SPLITS};
 
 fn is_no_higher(tree: &Tree, splits: u8) -> bool
     ensures { IsTrue result ↔ (height tree.now ≤ splits) }
@@ -48,7 +43,8 @@ fn has_short_chains(tree: &Tree) -> bool
     }
 }
 
-/// Whether the tree has at most 6 splits on each path, and no chain of more than 16 tasks.
+/// Whether the tree has at most `MOST_SPLITS` splits on each path, and no chain of more than
+/// `MOST_IN_CHAIN` tasks.
 pub fn is_within_limits(tree: &Tree) -> bool
     ensures within { IsTrue result ↔ IsWithinLimits tree.now }
     ensures test { result ≡ is_within_limits (as_wide_tree tree.now) }

@@ -6,8 +6,8 @@ ghost use Rattle.tpl_trees.specs.Prelude.{IsWithinWideLimits};
 use crate::wide_tree::WideTree;
 use std::marker::Model;
 
-/// A certificate: a tree for each claim, in the order of the claims, each within the limits: at most 6 splits on each
-/// path, and at most 16 tasks in a chain. Contracts see the list of the trees.
+/// A certificate: a tree for each claim, in the order of the claims, each within the limits: at most `MOST_SPLITS`
+/// splits on each path, and at most `MOST_IN_CHAIN` tasks in a chain. Contracts see the list of the trees.
 #[derive(Drop)]
 pub struct WideCertificate {
     trees: Vec<WideTree>,

@@ -3,9 +3,9 @@
 ghost use Rattle.std.specs.Prelude.{◌≡◌, ◌≤◌, ◌↔◌, IsTrue, All};
 ghost use Rattle.tpl_trees.specs.Prelude.{HasShortWideChain, HasShortWideChains, IsWithinWideLimits, is_within_limits, wide_height};
 
-use crate::limits::{MOST_IN_CHAIN, MOST_SPLITS};
 use crate::wide_row::WideRow;
 use crate::wide_tree::{WideNode, WideTree};
+use tpl_model::{MOST_IN_CHAIN, MOST_SPLITS};
 
 fn is_no_higher(tree: &WideTree, splits: u8) -> bool
     ensures { IsTrue result ↔ (wide_height tree.now ≤ splits) }

@@ -14,8 +14,8 @@ use std::slice;
 use tpl_analyser::{Budget, Form, Gap, Unwatched};
 use tpl_commands::{Proof, find_proof};
 use tpl_graph::Claim;
-use tpl_model::Property;
-use tpl_trees::{MOST_SPLITS, Node, Tree, WideNode, WideTree};
+use tpl_model::{MOST_SPLITS, Property};
+use tpl_trees::{Node, Tree, WideNode, WideTree};
 
 /// How many splits the tree has above its deepest leaf.
 fn splits_of(tree: &Tree) -> u8

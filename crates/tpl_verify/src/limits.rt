@@ -3,8 +3,8 @@
 ghost use Rattle.std.specs.Prelude.{◌≡◌, ◌≤◌};
 
 use tpl_analyser::{Depth, Leaves};
+use tpl_model::MOST_SPLITS;
 use tpl_refute::Effort;
-use tpl_trees::MOST_SPLITS;
 
 /// How much is tried for a claim at most.
 #[derive(Clone, Copy, PartialEq, Eq, Debug)]

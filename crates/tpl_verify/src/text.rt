@@ -11,6 +11,7 @@ ghost use Rattle.tpl_verify.specs.Prelude.{HasForm, IsFilled, IsTextOf, IsUnseen
 use crate::start::start_with;
 use serde_json::Value;
 use std::alloc::{AllocError, Global};
+use tpl_json::MOST_NESTED;
 use tpl_model::Inputs;
 use tpl_reader::Document;
 
@@ -18,7 +19,7 @@ use tpl_reader::Document;
 fn read_value(alloc: Global, bytes: &[u8], document: &Document) -> Result<Value, AllocError>
     requires { Spells bytes.now (doc_of document.now) }
     ensures reads { IfOk result (λ v. Reads bytes.now (view v)) }
-    ensures nests { IfOk result (λ v. depth (view v) ≤ 127) }
+    ensures nests { IfOk result (λ v. depth (view v) ≤ MOST_NESTED) }
 {
     let _ = document;
     match Value::from_slice(alloc, bytes) {
@@ -51,7 +52,7 @@ fn value_of(alloc: Global, bytes: &[u8], document: &Document) -> Result<Value, A
     requires { Spells bytes.now (doc_of document.now) }
     ensures reads { IfOk result (λ v. IsUnseenOf bytes.now (view v)) }
     ensures form { IfOk result (λ v. HasForm (view v)) }
-    ensures nests { IfOk result (λ v. depth (view v) ≤ 127) }
+    ensures nests { IfOk result (λ v. depth (view v) ≤ MOST_NESTED) }
 {
     let value = read_value(alloc, bytes, document)?;
     Ok(without_seen(value))

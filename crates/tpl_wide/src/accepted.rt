@@ -17,6 +17,7 @@ use crate::tree::{least_leaf_fault, tree_fault};
 use std::alloc::{AllocError, Global};
 use tpl_checker::Assumptions;
 use tpl_leaf::{WinnerSplit, narrowed};
+use tpl_model::MOST_SPLITS;
 use tpl_trees::{WideRow, WideTree};
 
 /// Whether a leaf that leaves its rows out is accepted, where its splits left this.
@@ -56,7 +57,7 @@ pub fn rows_left_out(
     Ok(rows)
 }
 
-/// Whether a tree is accepted that splits what is assumed. It has at most 6 splits on a path.
+/// Whether a tree is accepted that splits what is assumed. It has at most `MOST_SPLITS` splits on a path.
 pub fn accepts_tree(
     alloc: Global,
     check: &Check<'_>,
@@ -64,7 +65,7 @@ pub fn accepts_tree(
     tree: &WideTree,
 ) -> Result<bool, AllocError>
     requires check { IsCheck check.now }
-    requires height { wide_height tree.now ≤ 6 }
+    requires height { wide_height tree.now ≤ MOST_SPLITS }
     ensures { IfOk result (λ b. IsTrue b ↔ AcceptsWideTree (graph_in check.now) check.now.property
         (wide_assumed assumed.now []) tree.now) }
 {

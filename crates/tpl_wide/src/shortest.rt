@@ -11,8 +11,7 @@ use crate::readers::{read_tasks, taken_over};
 use std::alloc::{AllocError, Global};
 use tpl_checker::takes_over;
 use tpl_leaf::{Leaf, reads_from};
-use tpl_model::{Property, TaskId, TaskSet};
-use tpl_trees::MOST_IN_CHAIN;
+use tpl_model::{MOST_IN_CHAIN, Property, TaskId, TaskSet};
 
 /// The chain of a task: only the task has one whose exception is to be observed.
 pub(crate) fn chain_for(

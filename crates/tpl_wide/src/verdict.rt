@@ -19,12 +19,12 @@ use std::alloc::Global;
 use tpl_checker::{Below, assumed_for};
 use tpl_graph::{Claim, Graph};
 use tpl_leaf::links;
-use tpl_model::RuleSet;
+use tpl_model::{MOST_SPLITS, RuleSet};
 use tpl_paths::TokenSet;
 use tpl_trees::WideTree;
 
 /// Checks that the trees prove the claims of the graph, each of which can be asked of it, by the wide
-/// rules for rows that speak of tokens too. No tree has more than 6 splits on a path
+/// rules for rows that speak of tokens too. No tree has more than `MOST_SPLITS` splits on a path
 /// (`tpl_trees::is_within_wide_limits` tests that).
 ///
 /// The first fault is reported. `Shape` comes first, for the first claim that has it: it has no tree,
@@ -43,7 +43,7 @@ pub fn check_wide(
     trees: &[WideTree],
 ) -> Result<(), WideFault>
     requires claims { All (Fits graph.now.graph) claims.now }
-    requires trees { All (λ tree. wide_height tree ≤ 6) trees.now }
+    requires trees { All (λ tree. wide_height tree ≤ MOST_SPLITS) trees.now }
     ensures verdict { IsAnswer (wide_verdict graph.now.graph claims.now trees.now) result }
     ensures accepted { IfOk result (λ u. WidelyAccepts graph.now.graph claims.now trees.now) }
     ensures refused { IfErr result (λ fault. WidelyAccepts graph.now.graph claims.now trees.now
@@ -65,7 +65,7 @@ fn verdict(
     trees: &[WideTree],
 ) -> Result<(), WideFault>
     requires claims { All (Fits graph.now.graph) claims.now }
-    requires trees { All (λ tree. wide_height tree ≤ 6) trees.now }
+    requires trees { All (λ tree. wide_height tree ≤ MOST_SPLITS) trees.now }
     ensures { IsAnswer (wide_verdict graph.now.graph claims.now trees.now) result }
 {
     match misfit(graph, claims, trees) {
@@ -82,7 +82,7 @@ fn claims_fault(
     trees: &[WideTree],
 ) -> Result<(), WideFault>
     requires claims { All (Fits graph.now.graph) claims.now }
-    requires trees { All (λ tree. wide_height tree ≤ 6) trees.now }
+    requires trees { All (λ tree. wide_height tree ≤ MOST_SPLITS) trees.now }
     requires shapes { wide_misfit graph.now.graph 1 claims.now trees.now ≡ None }
     ensures { IsAnswer (no_fault (wide_claims_fault graph.now.graph 1 claims.now trees.now)) result }
 {
@@ -116,7 +116,7 @@ fn claim_fault(
     requires below { AreBelow graph.now.graph below.now }
     requires linked { AreLinks graph.now.graph linked.now }
     requires fits { IsTrue (wide_fits graph.now.graph tree.now) }
-    requires height { wide_height tree.now ≤ 6 }
+    requires height { wide_height tree.now ≤ MOST_SPLITS }
     ensures { WidelyFailing (wide_tree_fault graph.now.graph claim.now.body number
         (widely_assumed graph.now.graph claim.now) 1 tree.now) (1 + wide_leaves tree.now) result }
 {

@@ -1,10 +1,7 @@
 //! Bytes that are no JSON text.
 
 use std::alloc::{AllocError, Global};
-use tpl_json::NotRead;
-
-const NO_JSON: &str =
-    "this is not valid JSON; JSON has no comments, no single quotes, no comma before ] or }, and here at most 127 levels";
+use tpl_json::{MOST_NESTED, NotRead};
 
 /// What is said of the bytes for what they begin with.
 fn says_mark(bytes: &[u8]) -> &'static str {
@@ -58,19 +55,24 @@ fn is_whole(front: &[u8]) -> bool {
 }
 
 /// What is wrong where the reading of a text stopped, at this byte.
-fn says_why(bytes: &[u8], at: usize) -> &'static str {
-    match bytes.get(..at) {
+fn says_why(alloc: Global, bytes: &[u8], at: usize) -> Result<String, AllocError> {
+    let said = match bytes.get(..at) {
         _ if at >= bytes.len() => "the text ends too early",
         Some(front) if is_whole(front) => {
             "the document has ended before this; a command reads one document"
         }
-        _ => NO_JSON,
-    }
+        _ => {
+            return format!(in alloc;
+                "this is not valid JSON; JSON has no comments, no single quotes, no comma before ] or }}, and here at most {MOST_NESTED} levels"
+            );
+        }
+    };
+    String::from_str(alloc, said)
 }
 
 /// What is said of a text whose reading stopped at this byte.
 fn says_stop(alloc: Global, bytes: &[u8], at: usize) -> Result<String, AllocError> {
-    let why = says_why(bytes, at);
+    let why = says_why(alloc, bytes, at)?;
     let (line, column) = line_and_column(bytes, at);
     format!(in alloc; "line {line}, column {column}: {why}\n")
 }

@@ -2,8 +2,7 @@
 
 use json::Value;
 use tpl_json::{find, text_in};
-use tpl_model::{MOST_ARGUMENTS, MOST_INPUTS, MOST_TOKENS};
-use tpl_trees::MOST_IN_CHAIN;
+use tpl_model::{MOST_ARGUMENTS, MOST_IN_CHAIN, MOST_INPUTS, MOST_TOKENS};
 
 /// What may stand at a place of a document.
 #[derive(Clone, Copy)]

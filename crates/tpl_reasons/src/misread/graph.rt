@@ -9,10 +9,7 @@ use json::Value;
 use std::alloc::AllocError;
 use tpl_graph::{GraphFault, OptionsFault, Why};
 use tpl_json::{list_of, member_in, text_of};
-use tpl_model::{MOST_SITES, MOST_STATEMENTS, MOST_TASKS};
-
-const NO_NAME: &str =
-    "is not a name: a name (label, site) is 1 to 32 ASCII letters, digits or _, and doesn't begin with a digit";
+use tpl_model::{LONGEST_NAME, MOST_LEVELS, MOST_SITES, MOST_STATEMENTS, MOST_TASKS};
 
 const OF_CHILD: &str =
     "is a child, and no task waits for a child; wait for the task that starts it";
@@ -97,31 +94,54 @@ impl<'v, 't> Teller<'v, 't> {
 
     /// The line about a limit of a body, or of all bodies.
     fn body_line(self, area: Area) -> Line {
-        let said = "is the 65th statement of a body, which has 64 at most, counting nested ones";
-        let many = self.tell(area, Ask::Statement, usize::from(MOST_STATEMENTS), said)?;
-        if many.is_some() {
-            return Ok(many);
+        let most = usize::from(MOST_STATEMENTS);
+        let said = format!(in self.alloc;
+            "is the {}th statement of a body, which has {most} at most, counting nested ones",
+            most + 1
+        )?;
+        match self.tell(area, Ask::Statement, most, said.as_str())? {
+            None => self.many_jobs_line(area),
+            found => Ok(found),
         }
-        let said = "is the 257th job of the graph, which has 256 at most";
+    }
+
+    /// The line about too many jobs, or where there are not too many about too many levels.
+    fn many_jobs_line(self, area: Area) -> Line {
+        let said = format!(in self.alloc;
+            "is the {}th job of the graph, which has {MOST_SITES} at most",
+            MOST_SITES + 1
+        )?;
         match self.tell(
             Area::Graph,
             Ask::Form(Form::Work),
-            usize::from(MOST_SITES),
-            said,
+            MOST_SITES,
+            said.as_str(),
         )? {
             None => {
                 let path = self.path_of(area)?;
-                let said = "its body nests deeper than 8 levels; a body without branches has one";
-                self.line(area, path.as_str(), said)
+                let said = format!(in self.alloc;
+                    "its body nests deeper than {MOST_LEVELS} levels; a body without branches has one"
+                )?;
+                self.line(area, path.as_str(), said.as_str())
             }
             found => Ok(found),
         }
     }
 
+    /// The line about a text that is no name.
+    fn bad_name_line(self, area: Area) -> Line {
+        let said = format!(in self.alloc;
+            "is not a name: a name (label, site) is 1 to {LONGEST_NAME} ASCII letters, digits or _, and doesn't begin with a digit"
+        )?;
+        self.tell(area, Ask::BadName, 0, said.as_str())
+    }
+
     fn too_many_line(self, area: Area) -> Line {
         if matches!(area, Area::Task(index) if index == usize::from(MOST_TASKS)) {
             let count = list_in(self.document, "tasks").len();
-            let said = format!(in self.alloc; "it has {count} tasks, and may have 1024 at most")?;
+            let said = format!(in self.alloc;
+                "it has {count} tasks, and may have {MOST_TASKS} at most"
+            )?;
             return self.line(Area::Top, "tasks", said.as_str());
         }
         match self.long_line(area)? {
@@ -270,7 +290,7 @@ impl<'v, 't> Teller<'v, 't> {
         };
         match fault.why {
             Why::TooMany => self.too_many_line(area),
-            Why::BadName => self.tell(area, Ask::BadName, 0, NO_NAME),
+            Why::BadName => self.bad_name_line(area),
             Why::NameTwice => self.name_twice_line(fault.at),
             Why::Unknown => self.unknown_line(area),
             Why::NotEarlier => self.later_line("tasks", area, index),

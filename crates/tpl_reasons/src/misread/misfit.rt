@@ -73,7 +73,7 @@ impl<'v, 't> Teller<'v, 't> {
         let all = listed(self.alloc, form.names(self.third()))?;
         format!(in self.alloc;
             "{key} is no member of {}{near}; its members are {all}",
-            form.noun(self.third())
+            form.noun(self.alloc, self.third())?
         )
     }
 
@@ -92,7 +92,7 @@ impl<'v, 't> Teller<'v, 't> {
         {
             if find(found.value, name).is_none() {
                 let and = if text.is_empty() { "" } else { "; " };
-                let noun = found.form.member(name).noun(self.third());
+                let noun = found.form.member(name).noun(self.alloc, self.third())?;
                 write!(text, "{and}the member \"{name}\" is missing: {noun}")?;
             }
         }
@@ -115,7 +115,7 @@ impl<'v, 't> Teller<'v, 't> {
         };
         let first = quoted(self.alloc, first)?;
         let all = listed(self.alloc, &names)?;
-        let (word, noun) = (form.word(), form.noun(self.third()));
+        let (word, noun) = (form.word(), form.noun(self.alloc, self.third())?);
         format!(in self.alloc;
             "{first} doesn't make a {word}{near}; it must be {noun}, with one of {all}"
         )
@@ -133,7 +133,7 @@ impl<'v, 't> Teller<'v, 't> {
         let near = question(self.alloc, text, form.words())?;
         let text = quoted(self.alloc, text)?;
         let all = listed(self.alloc, form.words())?;
-        let noun = form.noun(self.third());
+        let noun = form.noun(self.alloc, self.third())?;
         format!(in self.alloc; "{text} is not {noun}{near}; it must be one of {all}")
     }
 
@@ -160,7 +160,8 @@ impl<'v, 't> Teller<'v, 't> {
             }
             Value::String(text) if !form.words().is_empty() => self.says_word(form, text),
             _ => {
-                let (shown, noun) = (shown(self.alloc, found.value)?, form.noun(self.third()));
+                let shown = shown(self.alloc, found.value)?;
+                let noun = form.noun(self.alloc, self.third())?;
                 format!(in self.alloc; "it must be {noun}, not {shown}")
             }
         }

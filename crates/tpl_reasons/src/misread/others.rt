@@ -9,7 +9,8 @@ use json::Value;
 use std::alloc::AllocError;
 use tpl_cert::TreeFault;
 use tpl_json::{bool_in, find};
-use tpl_reader::{ClaimFault, StartFault};
+use tpl_model::MOST_SPLITS;
+use tpl_reader::{ClaimFault, StartFault, most_claims};
 
 const NO_BODY: &str =
     "is of kind \"all\" or \"any\": it has no body, so that it doesn't begin and throws nothing; name the tasks that it waits for";
@@ -85,7 +86,7 @@ impl<'v, 't> Teller<'v, 't> {
         match fault {
             ClaimFault::TooMany => {
                 let count = list_in(self.document, "claims").len();
-                let most = if self.third() { 1024 } else { 64 };
+                let most = most_claims(self.version);
                 let said = format!(in self.alloc;
                     "it has {count} claims, and may have {most} at most"
                 )?;
@@ -110,11 +111,10 @@ impl<'v, 't> Teller<'v, 't> {
             TreeFault::Limit => match self.long_line(area)? {
                 None => {
                     let path = self.path_of(area)?;
-                    self.line(
-                        area,
-                        path.as_str(),
-                        "a path of the tree has more than 6 splits",
-                    )
+                    let said = format!(in self.alloc;
+                        "a path of the tree has more than {MOST_SPLITS} splits"
+                    )?;
+                    self.line(area, path.as_str(), said.as_str())
                 }
                 found => Ok(found),
             },

@@ -1,6 +1,8 @@
 //! What may stand at a place of a document, in words.
 
 use crate::misread::form::Form;
+use std::alloc::{AllocError, Global};
+use tpl_model::LONGEST_CLAIM_NAME;
 
 const KINDS: [&str; 5] = ["root", "child", "then", "all", "any"];
 
@@ -111,7 +113,6 @@ impl Form {
             Form::GivenWord => "a word for what is given of all",
             Form::LeastWord => "the word for a leaf without rows",
             Form::Version => "1, 2 or 3, written as an integer",
-            Form::ClaimName => "a claim's name, 1 to 100 bytes of text without control characters",
             Form::Note => "a note, which is a text",
             Form::Ends => "an object with the final status of each task that was seen to end",
             Form::Journal => "the journal, one text",
@@ -133,8 +134,13 @@ impl Form {
     }
 
     /// What may stand there.
-    pub(crate) fn noun(self, third: bool) -> &'static str {
-        if third && self.is(Form::Given) {
+    pub(crate) fn noun(self, alloc: Global, third: bool) -> Result<String, AllocError> {
+        if self.is(Form::ClaimName) {
+            return format!(in alloc;
+                "a claim's name, 1 to {LONGEST_CLAIM_NAME} bytes of text without control characters"
+            );
+        }
+        let said = if third && self.is(Form::Given) {
             GIVEN
         } else if self.is_list() {
             self.list()
@@ -142,6 +148,7 @@ impl Form {
             self.object()
         } else {
             self.other()
-        }
+        };
+        String::from_str(alloc, said)
     }
 }

@@ -5,11 +5,11 @@ use crate::misread::form::Form;
 use crate::misread::say::add_word;
 use json::Value;
 use std::alloc::{AllocError, Global};
-use tpl_json::{find, number_of};
-use tpl_reader::Version;
+use tpl_json::{MOST_NESTED, find};
+use tpl_reader::{Version, version_of};
 
-/// More levels than a document has.
-const LEVELS: u32 = 128;
+/// One more level than arrays and objects have: that of a value in the innermost.
+const LEVELS: u32 = MOST_NESTED as u32 + 1;
 
 /// A step from a value into it.
 #[derive(Clone, Copy)]
@@ -143,14 +143,13 @@ pub(crate) struct Teller<'v, 't> {
 }
 
 /// The version of a document; the first where that isn't said.
-fn version_of(document: &Value<'_>) -> Version {
+fn version_in(document: &Value<'_>) -> Version {
     let Some(version) = find(document, "version") else {
         return Version::One;
     };
-    match number_of(version) {
-        Ok(2) => Version::Two,
-        Ok(3) => Version::Three,
-        _ => Version::One,
+    match version_of(version) {
+        Ok(version) => version,
+        Err(_) => Version::One,
     }
 }
 
@@ -159,7 +158,7 @@ impl<'v, 't> Teller<'v, 't> {
         Teller {
             alloc,
             document,
-            version: version_of(document),
+            version: version_in(document),
         }
     }
 
