@@ -4,6 +4,7 @@ import os
 import pathlib
 import pty
 import re
+import runpy
 import subprocess
 
 import pytest
@@ -59,6 +60,15 @@ def test_pipelines_keep_the_limits():
 def test_pipeline_refuses_other_numbers(shards: str):
     answer = PIPELINE(shards)
     assert (answer.stdout, answer.exit) == ("", USAGE)
+
+
+# ---- the tests
+
+
+def test_each_file_of_tests_is_run():
+    tests = runpy.run_path(str(TOP / "test"))["TESTS"]
+    run = {word for it in tests for word in it.command if word.endswith(".py")}
+    assert run == {f"{folder}/{it.name}" for folder in ("cases", ".ci") for it in (TOP / folder).glob("test_*.py")}
 
 
 # ---- the version, help, and terminals
