@@ -9,14 +9,14 @@ use Rattle.tpl_draft.specs.Draft.{Draft, Task}
 use Rattle.tpl_draft.specs.Names.{has_name, some_twice}
 use Rattle.tpl_draft.specs.Twice.{IsTwiceAt, NoneTwiceBelow}
 use Rattle.tpl_draft.specs.Numbered.{names_of}
-use Rattle.tpl_draft.specs.Refusals.{applies, at_task, NoneBelow, Refuses}
+use Rattle.tpl_draft.specs.Refusals.{applies, at_task, number, NoneBelow, Refuses}
 use Rattle.tpl_draft.proofs.LeastLemmas.{least, none_below_next}
 
-pub inputs_twice : (d : Draft) (names : List (List ℕ)) → names ≡ (names_of d).inputs → some_twice names ≡ true → NoneBelow d 3 → Refuses d (record { why = why.NameTwice; at = 0 })
+pub inputs_twice : (d : Draft) (names : List (List ℕ)) → names ≡ (names_of d).inputs → some_twice names ≡ true → NoneBelow d (number why.NameTwice) → Refuses d (record { why = why.NameTwice; at = 0 })
 inputs_twice d names e twice before =
     least d why.NameTwice 0 refl before (ap (λ b. b || some_twice (names_of d).tokens) (sym (ap some_twice e) ∙ twice), λ m lt. absurd (omega arith))
 
-pub tokens_twice : (d : Draft) (names : List (List ℕ)) → names ≡ (names_of d).tokens → some_twice names ≡ true → NoneBelow d 3 → Refuses d (record { why = why.NameTwice; at = 0 })
+pub tokens_twice : (d : Draft) (names : List (List ℕ)) → names ≡ (names_of d).tokens → some_twice names ≡ true → NoneBelow d (number why.NameTwice) → Refuses d (record { why = why.NameTwice; at = 0 })
 tokens_twice d names e twice before =
     least d why.NameTwice 0 refl before
     (ap (λ b. some_twice (names_of d).inputs || b) (sym (ap some_twice e) ∙ twice) ∙ or_true (some_twice (names_of d).inputs), λ m lt. absurd (omega arith))
@@ -41,7 +41,7 @@ none_at d j none =
 in_lists_none : (d : Draft) → some_twice (names_of d).inputs ≡ false → some_twice (names_of d).tokens ≡ false → applies d why.NameTwice 0 ≡ false
 in_lists_none d i k = ap (λ b. b || some_twice (names_of d).tokens) i ∙ k
 
-pub tasks_twice : (d : Draft) (names : List (List ℕ)) (t n : ℕ) → names ≡ (names_of d).tasks → n ≡ suc t → some_twice (names_of d).inputs ≡ false → some_twice (names_of d).tokens ≡ false → IsTwiceAt names t → NoneTwiceBelow names t → NoneBelow d 3 → Refuses d (record { why = why.NameTwice; at = n })
+pub tasks_twice : (d : Draft) (names : List (List ℕ)) (t n : ℕ) → names ≡ (names_of d).tasks → n ≡ suc t → some_twice (names_of d).inputs ≡ false → some_twice (names_of d).tokens ≡ false → IsTwiceAt names t → NoneTwiceBelow names t → NoneBelow d (number why.NameTwice) → Refuses d (record { why = why.NameTwice; at = n })
 tasks_twice d names t n e next i k here below before =
     least d why.NameTwice n refl before (ap (applies d why.NameTwice) next ∙ at_t, earlier)
   where
@@ -55,8 +55,8 @@ tasks_twice d names t n e next i k here below before =
     earlier zero lt = in_lists_none d i k
     earlier (suc j) lt = none_at d j (λ twice. below j (omega arith) (subst (λ l. IsTwiceAt l j) (sym e) twice))
 
-pub no_name_twice : (d : Draft) (names : List (List ℕ)) → names ≡ (names_of d).tasks → some_twice (names_of d).inputs ≡ false → some_twice (names_of d).tokens ≡ false → NoneTwiceBelow names (length names) → NoneBelow d 3 → NoneBelow d 4
-no_name_twice d names e i k distinct before = none_below_next d why.NameTwice 4 refl before everywhere
+pub no_name_twice : (d : Draft) (names : List (List ℕ)) → names ≡ (names_of d).tasks → some_twice (names_of d).inputs ≡ false → some_twice (names_of d).tokens ≡ false → NoneTwiceBelow names (length names) → NoneBelow d (number why.NameTwice) → NoneBelow d (number why.Unknown)
+no_name_twice d names e i k distinct before = none_below_next d why.NameTwice (number why.Unknown) refl before everywhere
   where
     everywhere : (at : ℕ) → applies d why.NameTwice at ≡ false
     everywhere zero = in_lists_none d i k

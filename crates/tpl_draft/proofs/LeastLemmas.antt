@@ -1,5 +1,5 @@
 -- From the first place of each refusal to the least refusal.
-use Rattle.std.proofs.Common.{◌≡◌, ℕ, zero, suc, ◌<◌, true, false, refl, sym, ap, ◌∙◌, arith, ⊎_elim, inr}
+use Rattle.std.proofs.Common.{◌≡◌, ℕ, zero, suc, ◌≤◌, true, false, refl, sym, ap, ◌∙◌, arith, ⊎_elim, inr}
 use Rattle.std.proofs.lemmas.Bool.{cases_eq}
 use Rattle.std.specs.Prelude.{Some}
 use Rattle.tpl_draft.specs.declared.fault.OptionsFault.TheVariants.{ExcludesAll}
@@ -9,7 +9,7 @@ use Rattle.tpl_draft.specs.declared.refusals.Test.{Test}
 use Rattle.tpl_draft.specs.declared.refusals.Test.TheVariants as test
 use Rattle.tpl_draft.specs.Draft.{Draft}
 use Rattle.tpl_draft.specs.Test.{why_of}
-use Rattle.tpl_draft.specs.Refusals.{applies, number, names_fault, NoneBelow, IsFirst, Refuses}
+use Rattle.tpl_draft.specs.Refusals.{applies, number, names_fault, NoneBelow, IsFirst, IsValid, Refuses}
 
 abbrev why_at : ℕ → Why
 why_at (suc zero) = why.TooMany
@@ -46,9 +46,21 @@ pub test_named : (d : Draft) (test : Test) (at : ℕ) → names_fault d (why_of 
 test_named d test.BadName at = refl
 test_named d s at = refl
 
-pub nothing_below_one : (d : Draft) → NoneBelow d 1
-nothing_below_one d w at lt = absurd (none w lt)
-  where
-    none : (w : Why) → number w < 1 → ⊥
-    none why.TooMany lt = omega arith
-    none s lt = omega arith
+-- LinkPlace is the last of the refusals
+within_last : (w : Why) → number w ≤ number why.LinkPlace
+within_last why.TooMany = omega arith
+within_last why.BadName = omega arith
+within_last why.NameTwice = omega arith
+within_last why.Unknown = omega arith
+within_last why.NotEarlier = omega arith
+within_last why.OfChild = omega arith
+within_last why.EmptyAny = omega arith
+within_last why.ChildPlace = omega arith
+within_last why.SiteTwice = omega arith
+within_last (why.Option f) = omega arith
+within_last why.ObserveNothing = omega arith
+within_last why.Memory = omega arith
+within_last why.LinkPlace = omega arith
+
+pub none_at_all : (d : Draft) → NoneBelow d (suc (number why.LinkPlace)) → IsValid d
+none_at_all d none w at = none w at (let last = within_last w in omega arith)

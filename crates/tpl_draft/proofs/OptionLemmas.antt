@@ -8,7 +8,7 @@ use Rattle.tpl_draft.specs.declared.fault.OptionsFault.TheVariants.{ExcludesAll,
 use Rattle.tpl_draft.specs.declared.fault.Why.TheVariants as why
 use Rattle.tpl_draft.specs.Draft.{Task, Draft}
 use Rattle.tpl_draft.specs.SeenTasks.{task_of, draft_of}
-use Rattle.tpl_draft.specs.Refusals.{applies, at_task, names_fault, is_fault, options_fault_of, NoneBelow, Refuses}
+use Rattle.tpl_draft.specs.Refusals.{applies, at_task, number, names_fault, is_fault, options_fault_of, NoneBelow, Refuses}
 use Rattle.tpl_draft.proofs.FirstLemmas.{NoneUpTo, none_at_next, first_at_next, applies_at}
 use Rattle.tpl_draft.proofs.LeastLemmas.{least}
 use Rattle.tpl_draft.proofs.NamesLemmas.{map_here}
@@ -25,7 +25,7 @@ itself ExcludesAll = refl
 itself LongAndSync = refl
 itself WrongKind = refl
 
-pub fault_at_next : (d : declared.Draft) (t : ℕ) (x : DraftTask) (f : OptionsFault) → t < length d.tasks.items → x ≡ get_or d.tasks.items t x → NoneUpTo (some_fault d) t → Some f ≡ options_fault_of (task_of x) → NoneBelow (draft_of d) 10 → Refuses (draft_of d) (record { why = why.Option f; at = t + 1 })
+pub fault_at_next : (d : declared.Draft) (t : ℕ) (x : DraftTask) (f : OptionsFault) → t < length d.tasks.items → x ≡ get_or d.tasks.items t x → NoneUpTo (some_fault d) t → Some f ≡ options_fault_of (task_of x) → NoneBelow (draft_of d) (number (why.Option f)) → Refuses (draft_of d) (record { why = why.Option f; at = t + 1 })
 fault_at_next d t x f lt is none e before =
     let next : suc t ≡ t + 1 = omega arith in
     let first = first_at_next (some_fault d) t none (applies_at d (why.Option ExcludesAll) t x lt is ∙ ap is_some (sym e)) in

@@ -205,7 +205,7 @@ NoneBelow d n = (w : Why) (at : ℕ) → number w < n → applies d w at ≡ fal
 
 -- a draft that spells a valid graph: no refusal applies anywhere
 abbrev pub IsValid : Draft → Type 0
-IsValid d = NoneBelow d 14
+IsValid d = (w : Why) (at : ℕ) → applies d w at ≡ false
 
 -- the first number with a property, or none
 abbrev pub IsFirst : (ℕ → Bool) → Option ℕ → Type 0

@@ -1,8 +1,8 @@
 //! The names that a draft declares, none of which stands twice.
 
 ghost use Rattle.std.specs.Prelude.{◌≡◌, false, map, string_bytes, IfOk, IfErr, OnOk};
-ghost use Rattle.tpl_draft.specs.Prelude.{AreDeclared, NoneBelow, Refuses, draft_of, names_of, some_twice, task_of};
-ghost use Rattle.tpl_draft.specs.declared.fault.Why.TheVariants.{NameTwice, Memory};
+ghost use Rattle.tpl_draft.specs.Prelude.{AreDeclared, NoneBelow, Refuses, draft_of, names_of, number, some_twice, task_of};
+ghost use Rattle.tpl_draft.specs.declared.fault.Why.TheVariants.{Memory, NameTwice, Unknown};
 ghost use Rattle.tpl_draft.specs.SeenTasks.{token_of};
 
 use crate::ask::Declared;
@@ -52,7 +52,7 @@ fn memory() -> GraphFault
 }
 
 fn declare_inputs(alloc: Global, draft: &Draft) -> Result<Names, GraphFault>
-    requires { NoneBelow (draft_of draft.now) 3 }
+    requires { NoneBelow (draft_of draft.now) (number NameTwice) }
     ensures names { IfOk result (λ n. n ≡ (names_of (draft_of draft.now)).inputs) }
     ensures none { OnOk result (some_twice (names_of (draft_of draft.now)).inputs ≡ false) }
     ensures fault { IfErr result (Refuses (draft_of draft.now)) }
@@ -65,7 +65,7 @@ fn declare_inputs(alloc: Global, draft: &Draft) -> Result<Names, GraphFault>
 }
 
 fn declare_tokens(alloc: Global, draft: &Draft) -> Result<Names, GraphFault>
-    requires { NoneBelow (draft_of draft.now) 3 }
+    requires { NoneBelow (draft_of draft.now) (number NameTwice) }
     ensures names { IfOk result (λ n. n ≡ (names_of (draft_of draft.now)).tokens) }
     ensures none { OnOk result (some_twice (names_of (draft_of draft.now)).tokens ≡ false) }
     ensures fault { IfErr result (Refuses (draft_of draft.now)) }
@@ -79,11 +79,11 @@ fn declare_tokens(alloc: Global, draft: &Draft) -> Result<Names, GraphFault>
 }
 
 fn declare_tasks(alloc: Global, draft: &Draft) -> Result<Names, GraphFault>
-    requires before { NoneBelow (draft_of draft.now) 3 }
+    requires before { NoneBelow (draft_of draft.now) (number NameTwice) }
     requires inputs { some_twice (names_of (draft_of draft.now)).inputs ≡ false }
     requires tokens { some_twice (names_of (draft_of draft.now)).tokens ≡ false }
     ensures names { IfOk result (λ n. n ≡ (names_of (draft_of draft.now)).tasks) }
-    ensures none { OnOk result (NoneBelow (draft_of draft.now) 4) }
+    ensures none { OnOk result (NoneBelow (draft_of draft.now) (number Unknown)) }
     ensures once { OnOk result (some_twice (names_of (draft_of draft.now)).tasks ≡ false) }
     ensures fault { IfErr result (Refuses (draft_of draft.now)) }
 {
@@ -97,9 +97,9 @@ fn declare_tasks(alloc: Global, draft: &Draft) -> Result<Names, GraphFault>
 
 /// The declared names, none of which stands twice.
 pub fn declare(alloc: Global, draft: &Draft) -> Result<Declared, GraphFault>
-    requires { NoneBelow (draft_of draft.now) 3 }
+    requires { NoneBelow (draft_of draft.now) (number NameTwice) }
     ensures names { IfOk result (AreDeclared (draft_of draft.now)) }
-    ensures none { OnOk result (NoneBelow (draft_of draft.now) 4) }
+    ensures none { OnOk result (NoneBelow (draft_of draft.now) (number Unknown)) }
     ensures inputs { OnOk result (some_twice (names_of (draft_of draft.now)).inputs ≡ false) }
     ensures tokens { OnOk result (some_twice (names_of (draft_of draft.now)).tokens ≡ false) }
     ensures tasks { OnOk result (some_twice (names_of (draft_of draft.now)).tasks ≡ false) }

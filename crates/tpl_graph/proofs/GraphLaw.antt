@@ -26,7 +26,7 @@ use Rattle.std.proofs.Math.ListN.{get_or-map}
 use Rattle.tpl_model.proofs.Truths.{or_first, or_second}
 use Rattle.tpl_draft.specs.Draft.{Line, Kind, Root, Child, Continues, WhenAll, WhenAny, Task, Token, Draft, worked, waits_for, linked_to, statements_in, each_of, line_count, levels}
 use Rattle.tpl_draft.specs.Numbered.{names_of, graph_in, task_in, kind_in, token_in, script_in}
-use Rattle.tpl_draft.specs.Refusals.{IsValid, applies, number, in_task, in_lists, at_task, exceeds, is_child, is_child_at, is_empty_any, is_continuation, is_missing, lacks, says_unknown, reads_subject, starts_no_child, starters_from, all_starts, is_one_before, options_fault, words_of, is_misplaced, some_misplaced, site_total}
+use Rattle.tpl_draft.specs.Refusals.{IsValid, applies, in_task, in_lists, at_task, exceeds, is_child, is_child_at, is_empty_any, is_continuation, is_missing, lacks, says_unknown, reads_subject, starts_no_child, starters_from, all_starts, is_one_before, options_fault, words_of, is_misplaced, some_misplaced, site_total}
 use Rattle.tpl_graph.specs.Small.{IsSmall, AreSmall}
 use Rattle.tpl_draft.proofs.Bools.{and_true, is_below}
 use Rattle.tpl_graph.proofs.PlaceLaws.{place_within}
@@ -158,8 +158,8 @@ module _ (d : Draft) (valid : IsValid d) where
   abbrev empty : graph.Task
   empty = record { kind = graph.Root; body = script.Nothing; token = None; options = 0 }
 
-  pub none_at : (w : Why) (t : ℕ) (x : Task) → number w < 14 → slice_get d.tasks t ≡ Some x → in_task d w t x ≡ false
-  none_at w t x lt e = sym (ap (at_task (in_task d w t)) e) ∙ valid w (suc t) lt
+  pub none_at : (w : Why) (t : ℕ) (x : Task) → slice_get d.tasks t ≡ Some x → in_task d w t x ≡ false
+  none_at w t x e = sym (ap (at_task (in_task d w t)) e) ∙ valid w (suc t)
 
   pub tasks_long : length n.tasks ≡ length g.tasks
   tasks_long = length-map d.tasks (λ (x : Task). x.name) ∙ sym (length-map d.tasks (task_in n))
@@ -168,7 +168,7 @@ module _ (d : Draft) (valid : IsValid d) where
   tokens_long = length-map d.tokens (λ (k : Token). k.name) ∙ sym (length-map d.tokens (λ (k : Token). token_in n.tokens k.linked))
 
   not_exceeding : (t : ℕ) (x : Task) → slice_get d.tasks t ≡ Some x → exceeds t x ≡ false
-  not_exceeding t x e = or_first (exceeds t x) (nat_lt 256 (site_total (take (suc t) d.tasks))) (none_at why.TooMany t x (omega arith) e)
+  not_exceeding t x e = or_first (exceeds t x) (nat_lt 256 (site_total (take (suc t) d.tasks))) (none_at why.TooMany t x e)
 
   small_at : (t : ℕ) (x : Task) → slice_get d.tasks t ≡ Some x → IsSmall (worked x.kind).body
   small_at t x e =
@@ -238,12 +238,12 @@ module _ (d : Draft) (valid : IsValid d) where
       one_starter t (starters_from t 0 lists)
       (not-false (is_one_before t (starters_from t 0 lists))
       (and_true (is_child x.kind) (not (is_one_before t (starters_from t 0 lists)))
-      (or_first (is_child x.kind && not (is_one_before t (starters_from t 0 lists))) (list_any (starts_no_child d.tasks n.tasks) (statements_in x)) (none_at why.ChildPlace t x (omega arith) here)) child))
+      (or_first (is_child x.kind && not (is_one_before t (starters_from t 0 lists))) (list_any (starts_no_child d.tasks n.tasks) (statements_in x)) (none_at why.ChildPlace t x here)) child))
 
   pub starts_child : (p c : ℕ) → IsParent g p c → is_child_at d.tasks c ≡ true
   starts_child p c is = ⊎_elim
       (λ r. started_child d.tasks n.tasks c (statements_in r.0)
-      (or_second (is_child r.0.kind && not (is_one_before p (starters_from p 0 lists))) (list_any (starts_no_child d.tasks n.tasks) (statements_in r.0)) (none_at why.ChildPlace p r.0 (omega arith) r.1))
+      (or_second (is_child r.0.kind && not (is_one_before p (starters_from p 0 lists))) (list_any (starts_no_child d.tasks n.tasks) (statements_in r.0)) (none_at why.ChildPlace p r.0 r.1))
       (ap (mem c) (sym (starts_script n (worked r.0.kind).body)) ∙ (ap (λ (y : graph.Task). mem c (starts y.body)) (sym r.2) ∙ is)))
       (λ r. let no_more : false ≡ true = ap (λ (y : graph.Task). mem c (starts y.body)) (sym r.1) ∙ is in absurd (cc))
       (find (task_in n) empty d.tasks p)
@@ -264,19 +264,19 @@ module _ (d : Draft) (valid : IsValid d) where
 
   task_law : (t : ℕ) (x : Task) → slice_get d.tasks t ≡ Some x → task g t ≡ task_in n x → IsTask g t
   task_law t x here is =
-      let options = no_options_fault (words_of x.kind) (worked x.kind).options (none_at (why.Option ExcludesAll) t x (omega arith) here) in
-      let unknown = none_at why.Unknown t x (omega arith) here in
+      let options = no_options_fault (words_of x.kind) (worked x.kind).options (none_at (why.Option ExcludesAll) t x here) in
+      let unknown = none_at why.Unknown t x here in
       let lacking = or_first (is_missing n.tokens (worked x.kind).token || list_any (lacks n.tasks) (waits_for x.kind)) (list_any (says_unknown n.inputs n.tokens n.tasks) (statements_in x)) unknown in
       record {
         short = subst (λ (y : graph.Task). IsWithinLimits y.body) (sym is) (small_script n (worked x.kind).body (small_at t x here));
         ids = subst (λ (y : graph.Task). IdsOf g y.body) (sym is) (ids_of n g tokens_long refl tasks_long (worked x.kind).body (or_second (is_missing n.tokens (worked x.kind).token || list_any (lacks n.tasks) (waits_for x.kind)) (list_any (says_unknown n.inputs n.tokens n.tasks) (statements_in x)) unknown));
         own_token = subst (λ (y : graph.Task). OwnToken g y.token) (sym is) (own_token_of n.tokens g (worked x.kind).token tokens_long (or_first (is_missing n.tokens (worked x.kind).token) (list_any (lacks n.tasks) (waits_for x.kind)) lacking));
-        placed = subst (λ (y : graph.Task). IsPlaced g t y.kind) (sym is) (placed_kind t x.kind (none_at why.NotEarlier t x (omega arith) here) (none_at why.OfChild t x (omega arith) here) (few_waited t x here) (none_at why.EmptyAny t x (omega arith) here));
+        placed = subst (λ (y : graph.Task). IsPlaced g t y.kind) (sym is) (placed_kind t x.kind (none_at why.NotEarlier t x here) (none_at why.OfChild t x here) (few_waited t x here) (none_at why.EmptyAny t x here));
         bodiless = subst (λ (y : graph.Task). HasBody y.kind y) (sym is) (body_or_none n x.kind x refl);
         words = subst (λ (y : graph.Task). has_bits (option_words y.kind) y.options ≡ true) (sym is) (ap (λ w. has_bits w (worked x.kind).options) (sym (words_same n.tasks x.kind)) ∙ options.2);
         may_run = subst (λ (y : graph.Task). excludes_all y.options ≡ false) (sym is) options.0;
         not_long_and_synchronous = subst (λ (y : graph.Task). long_and_sync y.options ≡ false) (sym is) options.1;
-        subject = subst (λ (y : graph.Task). HasSubject y.kind y.body) (sym is) (subject_of_kind n x.kind (none_at why.ObserveNothing t x (omega arith) here));
+        subject = subst (λ (y : graph.Task). HasSubject y.kind y.body) (sym is) (subject_of_kind n x.kind (none_at why.ObserveNothing t x here));
         parent = λ child.
             let one = one_of t x here (is_child_kind n.tasks x.kind (sym (ap (λ (y : graph.Task). y.kind) is) ∙ child)) in
             (one.0, in_parent one.0 t (ap (mem one.0) one.1 ∙ one_in one.0), one.2);
@@ -294,10 +294,10 @@ module _ (d : Draft) (valid : IsValid d) where
       (find (task_in n) empty d.tasks t)
 
   pub few_tasks : length d.tasks ≤ 1024
-  few_tasks = few_tasks_from d (λ at. valid why.TooMany at (omega arith))
+  few_tasks = few_tasks_from d (λ at. valid why.TooMany at)
 
   lists_few : in_lists d why.TooMany ≡ false
-  lists_few = valid why.TooMany 0 (omega arith)
+  lists_few = valid why.TooMany 0
 
   pub few_inputs : length d.inputs ≤ 16
   few_inputs = ltb-false 16 (length d.inputs) (or_first (nat_lt 16 (length d.inputs)) (nat_lt 32 (length d.tokens)) (or_first (nat_lt 16 (length d.inputs) || nat_lt 32 (length d.tokens)) (list_any (λ (k : Token). nat_lt 32 (length (linked_to k.linked))) d.tokens) lists_few))
@@ -307,4 +307,4 @@ module _ (d : Draft) (valid : IsValid d) where
 
   pub links_law : (k : ℕ) → graph.is_token g k → IsLinked k (graph.token g k)
   links_law k lt =
-      linked_at n.tokens 0 d.tokens (valid why.LinkPlace 0 (omega arith)) (or_second (nat_lt 16 (length d.inputs) || nat_lt 32 (length d.tokens)) (list_any (λ (x : Token). nat_lt 32 (length (linked_to x.linked))) d.tokens) lists_few) k k (omega arith) lt
+      linked_at n.tokens 0 d.tokens (valid why.LinkPlace 0) (or_second (nat_lt 16 (length d.inputs) || nat_lt 32 (length d.tokens)) (list_any (λ (x : Token). nat_lt 32 (length (linked_to x.linked))) d.tokens) lists_few) k k (omega arith) lt

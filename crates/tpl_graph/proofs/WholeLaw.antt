@@ -40,7 +40,7 @@ module _ (d : Draft) (valid : IsValid d) where
   few_sites = ⊎_elim
       (λ some. ⊎_elim
       (λ r.
-      let last = ltb-false 256 (site_total (take (suc (length d.tasks - 1)) d.tasks)) (or_second (exceeds (length d.tasks - 1) r.0) (nat_lt 256 (site_total (take (suc (length d.tasks - 1)) d.tasks))) (none_at d valid why.TooMany (length d.tasks - 1) r.0 (omega arith) r.1)) in
+      let last = ltb-false 256 (site_total (take (suc (length d.tasks - 1)) d.tasks)) (or_second (exceeds (length d.tasks - 1) r.0) (nat_lt 256 (site_total (take (suc (length d.tasks - 1)) d.tasks))) (none_at d valid why.TooMany (length d.tasks - 1) r.0 r.1)) in
       subst (λ l. site_total l ≤ 256) (take_all (suc (length d.tasks - 1)) d.tasks (omega arith)) last)
       (λ r. absurd (omega (arith, r.0)))
       (find (task_in (names_of d)) (record { kind = graph.Root; body = script.Nothing; token = None; options = 0 }) d.tasks (length d.tasks - 1)))
@@ -86,12 +86,12 @@ module _ (d : Draft) (valid : IsValid d) where
       (find (task_in (names_of d)) (record { kind = graph.Root; body = script.Nothing; token = None; options = 0 }) d.tasks t)
 
   tokens_spelled : AreSpelled (names_of d).tokens
-  tokens_spelled = none_bad (names_of d).tokens (or_second (list_any is_bad_name (names_of d).inputs) (list_any is_bad_name (names_of d).tokens) (valid why.BadName 0 (omega arith)))
+  tokens_spelled = none_bad (names_of d).tokens (or_second (list_any is_bad_name (names_of d).inputs) (list_any is_bad_name (names_of d).tokens) (valid why.BadName 0))
 
   tasks_spelled : AreSpelled (names_of d).tasks
   tasks_spelled t name e =
       let x = named_by (λ (x : Task). x.name) d.tasks t name e in
-      subst (λ z. is_name z ≡ true) x.2 (not-false (is_name x.0.name) (or_first (is_bad_name x.0.name) (list_any says_bad_name (statements_in x.0)) (none_at d valid why.BadName t x.0 (omega arith) x.1)))
+      subst (λ z. is_name z ≡ true) x.2 (not-false (is_name x.0.name) (or_first (is_bad_name x.0.name) (list_any says_bad_name (statements_in x.0)) (none_at d valid why.BadName t x.0 x.1)))
 
   pub is_named_graph : some_twice (names_of d).inputs ≡ false → some_twice (names_of d).tokens ≡ false → some_twice (names_of d).tasks ≡ false → some_twice (names_of d).sites ≡ false → IsNamedGraph (numbered d)
   is_named_graph inputs tokens tasks sites = record {

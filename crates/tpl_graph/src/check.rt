@@ -2,6 +2,7 @@
 
 ghost use Rattle.std.specs.Prelude.{◌≡◌, false, length, map, suc, IfOk, OnOk, IfErr};
 ghost use Rattle.tpl_draft.specs.Prelude.{AreDeclared, AreStarters, IsTestOf, IsValid, NoneBelow, Refuses, all_starts, draft_of, graph_in, names_of, number, some_twice, why_of};
+ghost use Rattle.tpl_draft.specs.declared.fault.Why.TheVariants as why;
 ghost use Rattle.tpl_draft.specs.Origins.{token_of};
 ghost use Rattle.tpl_graph.specs.Prelude.{IsChecked, IsFound, all_owned, numbers};
 
@@ -34,7 +35,7 @@ fn pass(draft: &Draft, test: &Test<'_>) -> Result<(), GraphFault>
 
 /// No limit is exceeded.
 fn pass_limits(draft: &Draft) -> Result<(), GraphFault>
-    ensures none { OnOk result (NoneBelow (draft_of draft.now) 2) }
+    ensures none { OnOk result (NoneBelow (draft_of draft.now) (number why.BadName)) }
     ensures fault { IfErr result (Refuses (draft_of draft.now)) }
 {
     match first_too_many(draft) {
@@ -52,7 +53,7 @@ fn pass_names(alloc: Global, draft: &Draft) -> Result<Declared, GraphFault>
     ensures inputs { OnOk result (some_twice (names_of (draft_of draft.now)).inputs ≡ false) }
     ensures tokens { OnOk result (some_twice (names_of (draft_of draft.now)).tokens ≡ false) }
     ensures tasks { OnOk result (some_twice (names_of (draft_of draft.now)).tasks ≡ false) }
-    ensures none { OnOk result (NoneBelow (draft_of draft.now) 5) }
+    ensures none { OnOk result (NoneBelow (draft_of draft.now) (number why.NotEarlier)) }
     ensures fault { IfErr result (Refuses (draft_of draft.now)) }
 {
     pass_limits(draft)?;
@@ -65,8 +66,8 @@ fn pass_names(alloc: Global, draft: &Draft) -> Result<Declared, GraphFault>
 /// Antecedents and arguments are in their places.
 fn pass_places(draft: &Draft, declared: &Declared) -> Result<(), GraphFault>
     requires names { AreDeclared (draft_of draft.now) declared.now }
-    requires before { NoneBelow (draft_of draft.now) 5 }
-    ensures none { OnOk result (NoneBelow (draft_of draft.now) 8) }
+    requires before { NoneBelow (draft_of draft.now) (number why.NotEarlier) }
+    ensures none { OnOk result (NoneBelow (draft_of draft.now) (number why.ChildPlace)) }
     ensures fault { IfErr result (Refuses (draft_of draft.now)) }
 {
     pass(draft, &Test::NotEarlier(declared))?;
@@ -76,10 +77,10 @@ fn pass_places(draft: &Draft, declared: &Declared) -> Result<(), GraphFault>
 
 /// The sites, none of which stands twice.
 fn pass_sites(alloc: Global, draft: &Draft) -> Result<Names, GraphFault>
-    requires { NoneBelow (draft_of draft.now) 9 }
+    requires { NoneBelow (draft_of draft.now) (number why.SiteTwice) }
     ensures names { IfOk result (λ n. n ≡ (names_of (draft_of draft.now)).sites) }
     ensures once { OnOk result (some_twice (names_of (draft_of draft.now)).sites ≡ false) }
-    ensures none { OnOk result (NoneBelow (draft_of draft.now) 10) }
+    ensures none { OnOk result (NoneBelow (draft_of draft.now) (suc (number why.SiteTwice))) }
     ensures fault { IfErr result (Refuses (draft_of draft.now)) }
 {
     match site_table(alloc, draft) {
@@ -97,8 +98,8 @@ fn pass_sites(alloc: Global, draft: &Draft) -> Result<Names, GraphFault>
 
 /// All options fit.
 fn pass_options(draft: &Draft) -> Result<(), GraphFault>
-    requires { NoneBelow (draft_of draft.now) 10 }
-    ensures none { OnOk result (NoneBelow (draft_of draft.now) 11) }
+    requires { NoneBelow (draft_of draft.now) (suc (number why.SiteTwice)) }
+    ensures none { OnOk result (NoneBelow (draft_of draft.now) (number why.ObserveNothing)) }
     ensures fault { IfErr result (Refuses (draft_of draft.now)) }
 {
     for (t, task) in draft.tasks.iter().enumerate() {
@@ -129,13 +130,13 @@ fn pass_children(
     declared: &Declared,
 ) -> Result<(Vec<Vec<TaskId>>, Vec<Starter>, Vec<Site>), GraphFault>
     requires names { AreDeclared (draft_of draft.now) declared.now }
-    requires before { NoneBelow (draft_of draft.now) 8 }
+    requires before { NoneBelow (draft_of draft.now) (number why.ChildPlace) }
     ensures starts { IfOk result (λ r. map numbers r.0.items
         ≡ all_starts (graph_in (names_of (draft_of draft.now)) (draft_of draft.now))) }
     ensures starters { IfOk result (λ r. AreStarters (draft_of draft.now) r.1.items) }
     ensures long { IfOk result (λ r. length r.1.items ≡ length (draft_of draft.now).tasks) }
     ensures sites { IfOk result (λ r. r.2.items ≡ all_owned 0 (draft_of draft.now).tasks) }
-    ensures none { OnOk result (NoneBelow (draft_of draft.now) 9) }
+    ensures none { OnOk result (NoneBelow (draft_of draft.now) (number why.SiteTwice)) }
     ensures fault { IfErr result (Refuses (draft_of draft.now)) }
 {
     let mut sites = Vec::new(alloc);
@@ -148,7 +149,7 @@ fn pass_children(
 /// The rows of the tokens, where each link is in its place.
 fn pass_links(alloc: Global, draft: &Draft, names: &Names) -> Result<Vec<Origin>, GraphFault>
     requires names { names.now ≡ (names_of (draft_of draft.now)).tokens }
-    requires before { NoneBelow (draft_of draft.now) 12 }
+    requires before { NoneBelow (draft_of draft.now) (suc (number why.ObserveNothing)) }
     ensures tokens { IfOk result (λ v. map token_of v.items
         ≡ (graph_in (names_of (draft_of draft.now)) (draft_of draft.now)).tokens) }
     ensures valid { OnOk result (IsValid (draft_of draft.now)) }
@@ -171,7 +172,7 @@ struct Found {
 /// The tests up to those of children.
 fn pass_first(alloc: Global, draft: &Draft) -> Result<Found, GraphFault>
     ensures found { IfOk result (IsFound (draft_of draft.now)) }
-    ensures none { OnOk result (NoneBelow (draft_of draft.now) 9) }
+    ensures none { OnOk result (NoneBelow (draft_of draft.now) (number why.SiteTwice)) }
     ensures fault { IfErr result (Refuses (draft_of draft.now)) }
 {
     let declared = pass_names(alloc, draft)?;
@@ -201,7 +202,7 @@ fn pass_rest(
     tokens: &Names,
 ) -> Result<(Names, Vec<Origin>, Names), GraphFault>
     requires names { tokens.now ≡ (names_of (draft_of draft.now)).tokens }
-    requires before { NoneBelow (draft_of draft.now) 9 }
+    requires before { NoneBelow (draft_of draft.now) (number why.SiteTwice) }
     ensures sites { IfOk result (λ r. r.0 ≡ (names_of (draft_of draft.now)).sites) }
     ensures once { OnOk result (some_twice (names_of (draft_of draft.now)).sites ≡ false) }
     ensures labels { IfOk result (λ r. r.2 ≡ (names_of (draft_of draft.now)).labels) }

@@ -1,13 +1,11 @@
 -- Of bytes that spell a document no fault is true.
-use Rattle.std.proofs.Common.{◌≡◌, ℕ, ◌<◌, List, true, Ok, Err, refl, sym, subst, ◌∙◌, arith, true≢false}
+use Rattle.std.proofs.Common.{◌≡◌, ℕ, List, true, Ok, Err, refl, sym, subst, ◌∙◌, arith, true≢false}
 use Rattle.serde_json.specs.Data.{Data}
-use Rattle.tpl_draft.specs.declared.fault.Why.{Why}
-use Rattle.tpl_draft.specs.declared.fault.Why.TheVariants as why
 use Rattle.tpl_draft.specs.declared.fault.GraphFault.{GraphFault}
 use Rattle.tpl_draft.specs.Draft.{Draft}
 use Rattle.tpl_draft.specs.Named.{Named}
 use Rattle.tpl_draft.specs.Numbered.{numbered}
-use Rattle.tpl_draft.specs.Refusals.{number, IsValid, IsLeast}
+use Rattle.tpl_draft.specs.Refusals.{IsValid, IsLeast}
 use Rattle.tpl_reader.specs.Asked.{claims_for}
 use Rattle.tpl_parts.specs.Versions.{rules_since}
 use Rattle.tpl_reader.specs.Trees.{trees_in}
@@ -21,23 +19,8 @@ use Rattle.tpl_reader.proofs.OneDocument.{value_same}
 
 -- ---- the graph
 
-number_below : (w : Why) → number w < 14
-number_below why.TooMany = omega arith
-number_below why.BadName = omega arith
-number_below why.NameTwice = omega arith
-number_below why.Unknown = omega arith
-number_below why.NotEarlier = omega arith
-number_below why.OfChild = omega arith
-number_below why.EmptyAny = omega arith
-number_below why.ChildPlace = omega arith
-number_below why.SiteTwice = omega arith
-number_below (why.Option f) = omega arith
-number_below why.ObserveNothing = omega arith
-number_below why.Memory = omega arith
-number_below why.LinkPlace = omega arith
-
 valid_graph : (d : Draft) → IsValid d → (f : GraphFault) → IsLeast d f → ⊥
-valid_graph d valid f least = true≢false (sym least.here ∙ valid f.why f.at (number_below f.why))
+valid_graph d valid f least = true≢false (sym least.here ∙ valid f.why f.at)
 
 -- ---- the whole
 

@@ -1,6 +1,7 @@
 use Rattle.std.proofs.Common.{refl}
 use Rattle.tpl_draft.specs.declared.fault.OptionsFault.TheVariants.{ExcludesAll}
 use Rattle.tpl_draft.specs.declared.fault.Why.TheVariants as why
+use Rattle.tpl_draft.specs.Refusals.{number}
 use Rattle.tpl_draft.specs.SeenTasks.{draft_of}
 use Rattle.tpl_draft.proofs.FirstLemmas.{none_at_first, none_applies}
 use Rattle.tpl_draft.proofs.LeastLemmas.{none_below_next}
@@ -20,4 +21,4 @@ loop-t-preserved c =
 
 pub returns-clause-none : goal.returns-clause-none
 returns-clause-none c =
-    none_below_next (draft_of c.args.draft.now) (why.Option ExcludesAll) 11 refl c.requires (none_applies c.args.draft.now (why.Option ExcludesAll) c.loop-t.t (rw c.deref-task-items.ensures.value at c.loop-t-test.false) c.loop-t.invariant)
+    none_below_next (draft_of c.args.draft.now) (why.Option ExcludesAll) (number why.ObserveNothing) refl c.requires (none_applies c.args.draft.now (why.Option ExcludesAll) c.loop-t.t (rw c.deref-task-items.ensures.value at c.loop-t-test.false) c.loop-t.invariant)
