@@ -1,8 +1,7 @@
 //! The options for numbers.
 
 ghost use Rattle.std.specs.Prelude.{◌≡◌, [], ◌∷◌, MatchOption};
-ghost use Rattle.tpl_cli.specs.Prelude.{number_name, number_range, usual};
-ghost use Rattle.tpl_cli.specs.Number.{deepest};
+ghost use Rattle.tpl_cli.specs.Prelude.{deepest, number_name, number_range, usual};
 
 use tpl_each::MOST_JOBS;
 use tpl_model::{MOST_SPLITS, MOST_WORKERS};

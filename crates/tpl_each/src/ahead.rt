@@ -2,26 +2,23 @@
 
 ghost use Rattle.std.specs.Prelude.{◌≡◌, ◌≤◌, [], true, length, drop, is_err, IfOk, MatchOption, MatchResult};
 ghost use Rattle.std.specs.Io.KnownBytes.{Consumes, IsAtEnd, Keeps};
-ghost use Rattle.tpl_each.specs.declared.ahead.TheConstants.{BLOCK};
 ghost use Rattle.tpl_each.specs.Lines.{IsFirstBreak, IsLine};
+ghost use Rattle.tpl_journal.specs.declared.reading.TheConstants.{BLOCK_BYTES};
 ghost use Rattle.tpl_journal.specs.Prelude.{calls_of, counted, failures_of, remaining_of};
 
 use memchr::memchr;
 use std::io;
 use std::io::Read;
-use tpl_journal::Counting;
-
-/// How many bytes are read at once, at most.
-const BLOCK: usize = 4096;
+use tpl_journal::{BLOCK_BYTES, Counting};
 
 /// Bytes that were read and belong to lines that come.
 #[derive(Drop)]
 pub(crate) struct Ahead {
-    block: [u8; BLOCK],
+    block: [u8; BLOCK_BYTES],
     start: usize,
     end: usize,
     ghost ordered: { start ≤ end },
-    ghost within: { end ≤ BLOCK },
+    ghost within: { end ≤ BLOCK_BYTES },
 }
 
 impl Ahead {
@@ -32,7 +29,7 @@ impl Ahead {
         ensures { ahead_of result ≡ [] }
     {
         Ahead {
-            block: [0; BLOCK],
+            block: [0; BLOCK_BYTES],
             start: 0,
             end: 0,
         }

@@ -15,7 +15,7 @@ use tpl_draft::{
     DraftBody, DraftKind, DraftTask, DraftToken, DraftWork, Names, Origin, Tables, number_body,
     task_id, token_id,
 };
-use tpl_model::{Body, LONGEST_NAME, Options, Script, TaskId, TokenId};
+use tpl_model::{Body, MOST_TOKENS, Options, Script, TaskId, TokenId};
 
 /// The tasks of a list of names.
 fn task_ids(alloc: Global, tables: &Tables, names: &[String]) -> Result<Vec<TaskId>, AllocError>
@@ -141,7 +141,7 @@ pub(crate) fn number_tasks(
 
 /// The tokens of a list of names.
 fn token_ids(alloc: Global, names: &Names, list: &[String]) -> Result<Vec<TokenId>, AllocError>
-    requires { length names.now ≤ LONGEST_NAME }
+    requires { length names.now ≤ MOST_TOKENS }
     ensures { IfOk result (λ v. map token_number v.items
         ≡ map (place names.now) (map string_bytes list.now)) }
 {
@@ -154,7 +154,7 @@ fn token_ids(alloc: Global, names: &Names, list: &[String]) -> Result<Vec<TokenI
 
 /// The row of a token: of a source of its own, or linked to other tokens.
 fn origin(alloc: Global, names: &Names, token: &DraftToken) -> Result<Origin, AllocError>
-    requires { length names.now ≤ LONGEST_NAME }
+    requires { length names.now ≤ MOST_TOKENS }
     ensures { IfOk result (λ o. origins.token_of o ≡ token_in names.now (token_of token.now).linked) }
 {
     match &token.linked {
@@ -169,7 +169,7 @@ pub(crate) fn origins(
     names: &Names,
     tokens: &[DraftToken],
 ) -> Result<Vec<Origin>, AllocError>
-    requires { length names.now ≤ LONGEST_NAME }
+    requires { length names.now ≤ MOST_TOKENS }
     ensures { IfOk result (λ v. map origins.token_of v.items
         ≡ map (λ (k : meaning.Token). token_in names.now k.linked) (map token_of tokens.now)) }
 {

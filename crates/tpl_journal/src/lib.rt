@@ -17,7 +17,7 @@ mod writing;
 mod writing_lines;
 
 pub use counting::Counting;
-pub use reading::{InputFault, read_limited};
+pub use reading::{BLOCK_BYTES, InputFault, read_limited};
 pub use reading_lines::{JournalFault, read_journal};
 pub use report::Report;
 pub use report_lines::write_report;

@@ -9,8 +9,8 @@ use std::alloc::Global;
 use std::io::Read;
 use thiserror::Error;
 
-/// How many bytes are read at once, at most.
-const BLOCK: usize = 4096;
+/// The most bytes of one read.
+pub const BLOCK_BYTES: usize = 4096;
 
 /// Why no bytes are answered.
 #[derive(Clone, Copy, Debug, Drop, PartialEq, Eq, Error)]
@@ -48,7 +48,7 @@ pub fn read_limited<R: Read>(
     ensures calls { calls_of from.new ≤ calls_of from.old + limit + 2 }
 {
     let mut bytes = Vec::new(alloc);
-    let mut buffer = [0u8; BLOCK];
+    let mut buffer = [0u8; BLOCK_BYTES];
     while bytes.len() <= limit {
         match from.read(&mut buffer) {
             Ok(0) => return Ok(bytes),

@@ -89,9 +89,9 @@ fn text_read<'t>(
     }
 }
 
-/// The value that bytes spell in UTF-8, as serde_json reads them: of several members of one name the last counts, and
-/// arrays and objects nest at most `MOST_NESTED` deep. The texts of the value are those of the bytes, and of the scratch where they
-/// are written with escapes.
+/// The value that bytes spell in UTF-8, as serde_json reads them. Of several members of one name the
+/// last counts, and arrays and objects nest at most `MOST_NESTED` deep. A text without escapes borrows
+/// the bytes, and one with escapes the scratch.
 pub fn value_from<'t>(
     alloc: Global,
     bytes: &'t [u8],

@@ -1,7 +1,8 @@
 -- Sets of tasks as lists of their numbers in ascending order, and as words of WORD_BITS bits.
 use Rattle.std.specs.Prelude.{◌≡◌, ℕ, zero, suc, ◌*◌, ◌/◌, ◌%◌, ◌<◌, ◌≤◌, Bool, true, ◌==◌, List, [], ◌∷◌, length, slice_index, if◌then◌else◌}
 use Rattle.std.specs.Int.{bit_at}
-use Rattle.tpl_model.specs.declared.limits.TheConstants.{MOST_TASKS, WORD_BITS}
+use Rattle.tpl_model.specs.declared.limits.TheConstants.{MOST_TASKS}
+use Rattle.tpl_model.specs.declared.task_set.TheConstants.{WORD_BITS}
 use Rattle.tpl_model.specs.Members.{mem}
 
 -- a list of numbers in ascending order, none twice, from low on and below high

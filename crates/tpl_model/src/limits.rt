@@ -47,9 +47,3 @@ pub const MOST_SPLITS: u8 = 6;
 
 /// The most tasks in a chain of a certificate.
 pub const MOST_IN_CHAIN: usize = 16;
-
-/// The bits of a word of a set of tasks.
-pub const WORD_BITS: usize = 64;
-
-/// The words of a set of tasks, with a bit for each.
-pub const SET_WORDS: usize = MOST_TASKS as usize / WORD_BITS;

@@ -4,8 +4,14 @@ ghost use Rattle.std.specs.Prelude.{◌≡◌, ℕ, ◌<◌, ◌↔◌, ◌||◌
 ghost use Rattle.tpl_model.specs.Prelude.{IsSubset, IsTaskSet, SetsAreTheirMembers, mem};
 
 use crate::ids::TaskId;
-use crate::limits::{MOST_TASKS, SET_WORDS, WORD_BITS};
+use crate::limits::MOST_TASKS;
 use std::marker::Model;
+
+/// The bits of a word of a set.
+pub const WORD_BITS: usize = u64::BITS as usize;
+
+/// The words of a set, with a bit for each task of the largest graph.
+pub const SET_WORDS: usize = MOST_TASKS as usize / WORD_BITS;
 
 /// A set of tasks with ids below `MOST_TASKS`, 128 bytes long. Contracts see the list of its
 /// members' numbers in ascending order.

@@ -69,7 +69,7 @@ fn each_text(alloc: Global, document: &Document, depth: Depth, missed: usize) ->
 }
 
 /// A number of some thousands, with a comma before the last three digits.
-fn thousands_text(alloc: Global, number: u32) -> Result<String, AllocError> {
+fn thousands_text(alloc: Global, number: u32) -> Said {
     format!(in alloc; "{},{:03}", number / 1_000, number % 1_000)
 }
 

@@ -105,7 +105,7 @@ fn tell_sites(text: &mut String, graph: &Graph) -> Result<(), AllocError> {
     Ok(())
 }
 
-/// Of more labels than these none are told.
+/// The most labels of a graph that are told. They are its first ones.
 const MOST_TOLD: usize = 256;
 
 fn tell_labels(text: &mut String, graph: &Graph) -> Result<(), AllocError> {

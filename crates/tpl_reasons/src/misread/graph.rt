@@ -105,7 +105,7 @@ impl<'v, 't> Teller<'v, 't> {
         }
     }
 
-    /// The line about too many jobs, or where there are not too many about too many levels.
+    /// The line about too many jobs. Where there are few enough, the levels are too many.
     fn many_jobs_line(self, area: Area) -> Line {
         let said = format!(in self.alloc;
             "is the {}th job of the graph, which has {MOST_SITES} at most",
