@@ -17,7 +17,7 @@ use Rattle.tpl_model.specs.Valid.{IsGraph, all_sites}
 use Rattle.tpl_graph.specs.Fits.{IsGivenOf, AreGivenOf, Fits}
 use Rattle.tpl_laws.specs.Runs.{gives_quiet, PrefixIsRun}
 use Rattle.tpl_laws.specs.ClaimTests.{HoldsIsRight}
-use Rattle.tpl_laws.specs.Failing.{is_at, unless_broken, first_failure, FailureIsTold}
+use Rattle.tpl_laws.specs.Failing.{is_at, first_failure, FailureIsTold}
 use Rattle.tpl_laws.specs.Failing as law
 use Rattle.tpl_audit.specs.declared.verdict.Failure.{Failure}
 use Rattle.tpl_audit.specs.Audit.{first_events, AllHoldAt, IsFirstFailure, FirstFails, better, IsVerdict, FindsNoFailure}

@@ -14,7 +14,7 @@ use Rattle.tpl_model.specs.Statements.{starts}
 use Rattle.tpl_model.specs.Statements as script
 use Rattle.tpl_model.specs.Limits.{statement_count}
 use Rattle.tpl_model.specs.Graph as graph
-use Rattle.tpl_model.specs.Graph.{TaskGraph, task, body, attached, IsParent}
+use Rattle.tpl_model.specs.Graph.{TaskGraph, task, body}
 use Rattle.tpl_graph.specs.declared.row.Row.{Row}
 use Rattle.tpl_draft.specs.declared.origin.Origin.{Origin}
 use Rattle.tpl_draft.specs.declared.starter.Starter.{Starter}

@@ -1,5 +1,5 @@
 -- The least rows of a leaf: they run and end only as K1 and K2 demand, and of begins and ends say all that K3 to K5 permit.
-use Rattle.std.specs.Prelude.{◌≡◌, ℕ, zero, suc, ◌&&◌, ◌||◌, not, Bool, true, false, Option, Some, None, List, [], ◌∷◌, length, nat_eq, slice_set, replicate, if◌then◌else◌}
+use Rattle.std.specs.Prelude.{ℕ, zero, suc, ◌&&◌, ◌||◌, not, Bool, true, false, Option, Some, None, List, [], ◌∷◌, length, nat_eq, slice_set, replicate, if◌then◌else◌}
 use Rattle.tpl_model.specs.declared.finals.Final.{Final}
 use Rattle.tpl_model.specs.declared.finals.Final.TheVariants.{RanToCompletion, Canceled, Faulted}
 use Rattle.tpl_model.specs.declared.finals.Finals.{Finals}
@@ -12,7 +12,7 @@ use Rattle.tpl_model.specs.declared.ids.TaskId.{TaskId}
 use Rattle.tpl_model.specs.declared.limits.TheConstants.{MOST_IN_CHAIN}
 use Rattle.tpl_model.specs.declared.claim.Property.{Property}
 use Rattle.tpl_model.specs.declared.claim.Property.TheVariants.{Observed}
-use Rattle.tpl_model.specs.Certificate.{Row, row, end_left, may_end}
+use Rattle.tpl_model.specs.Certificate.{row, end_left, may_end}
 use Rattle.tpl_model.specs.WiderRules.{WideRow, plain, wide_row, WideAssumed, kind_left, may_run, way_final}
 use Rattle.tpl_laws.specs.RowTests.{all_may_end, some_end, parent_of, is_below, reads, takes_over, some_below}
 use Rattle.tpl_laws.specs.WiderTests.{wide_runs_by, each_way, begin_by, end_by, reads_winner}

@@ -1,5 +1,5 @@
 -- When a certificate of rows that speak of tokens is accepted.
-use Rattle.std.specs.Prelude.{◌≡◌, ℕ, ◌<◌, true, false, List, [], ◌∷◌, length}
+use Rattle.std.specs.Prelude.{◌≡◌, ◌<◌, true, false, List, [], ◌∷◌, length}
 use Rattle.tpl_model.specs.declared.finals.Final.TheVariants.{RanToCompletion, Canceled, Faulted}
 use Rattle.tpl_model.specs.Graph.{TaskGraph, kind, is_task}
 use Rattle.tpl_model.specs.declared.ids.TaskId.{TaskId}

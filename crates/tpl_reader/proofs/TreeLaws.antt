@@ -13,7 +13,7 @@ use Rattle.tpl_model.specs.WiderRules.{WideTree, as_wide_tree}
 use Rattle.tpl_draft.specs.Named.{Names}
 use Rattle.tpl_json.specs.Members.{only_if}
 use Rattle.tpl_json.specs.declared.miss.Miss.{Miss}
-use Rattle.tpl_json.specs.Passes.{each_from, at_number, Yields}
+use Rattle.tpl_json.specs.Passes.{at_number, Yields}
 use Rattle.tpl_json.proofs.Json.{only_is}
 use Rattle.tpl_json.proofs.Passes.{bind_ok, bind_or, each_every, ok_is}
 use Rattle.tpl_trees.specs.Heights.{IsWithinLimits}

@@ -1,5 +1,5 @@
 -- From what was found to what was read and written.
-use Rattle.std.proofs.Common.{◌≡◌, ℕ, suc, ◌≤◌, ◌++◌, inl, inr, Bool, List, [], ◌∷◌, zero, length, reverse, Option, Some, None, Result, Ok, Err, IfOk, string_bytes, codes, refl, sym, subst, ◌∙◌, arith}
+use Rattle.std.proofs.Common.{◌≡◌, ℕ, suc, ◌≤◌, ◌++◌, inl, inr, Bool, List, [], ◌∷◌, zero, length, reverse, Option, Some, None, Result, Ok, Err, IfOk, string_bytes, codes, refl, subst, arith}
 use Rattle.std.specs.Prelude.{slice_get}
 use Rattle.std.specs.declared.alloc.AllocError.{AllocError}
 use Rattle.std.proofs.lemmas.List.{length-reverse}

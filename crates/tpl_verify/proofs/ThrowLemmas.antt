@@ -1,5 +1,5 @@
 -- Bodies that throw in no run.
-use Rattle.std.proofs.Common.{◌≡◌, ℕ, inl, inr, not, IsTrue, Bool, true, false, Option, Some, None, List, sym, ap, ◌∙◌, subst, refl}
+use Rattle.std.proofs.Common.{◌≡◌, ℕ, inl, inr, not, IsTrue, Bool, true, false, Option, Some, None, List, sym, ap, ◌∙◌, refl}
 use Rattle.tpl_model.specs.declared.ids.TaskId.{TaskId}
 use Rattle.tpl_model.specs.declared.finals.Final.{Final}
 use Rattle.tpl_model.specs.declared.finals.Final.TheVariants.{RanToCompletion, Canceled, Faulted}
@@ -16,7 +16,7 @@ use Rattle.tpl_model.specs.Graph.{TaskGraph, body}
 use Rattle.tpl_model.specs.Facts.{ending, final_in, outcome_in, rest}
 use Rattle.tpl_model.specs.Rules.{label}
 use Rattle.tpl_model.specs.Valid.{IsGraph}
-use Rattle.tpl_model.specs.Claims.{input, IsGiven}
+use Rattle.tpl_model.specs.Claims.{IsGiven}
 use Rattle.tpl_model.specs.Certificate.{assumed}
 use Rattle.tpl_laws.proofs.Basics.{the_some}
 use Rattle.tpl_laws.proofs.Execution.{passed}

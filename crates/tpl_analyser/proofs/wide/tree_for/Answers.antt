@@ -1,5 +1,4 @@
 use Rattle.std.proofs.Common.{[], true, IfOk, IfSome, ◌∙◌, subst}
-use Rattle.tpl_model.specs.Graph.{TaskGraph}
 use Rattle.tpl_model.specs.declared.ids.TaskId.{TaskId}
 use Rattle.tpl_model.specs.declared.claim.Property.{Property}
 use Rattle.tpl_model.specs.Certificate.{Assumed}

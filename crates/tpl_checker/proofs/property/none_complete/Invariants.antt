@@ -1,4 +1,4 @@
-use Rattle.std.proofs.Common.{◌≡◌, false}
+use Rattle.std.proofs.Common.{false}
 use Rattle.tpl_checker.proofs.CompleteLemmas.{NoneStuck}
 use Rattle.tpl_checker.proofs.property.none_complete.Given as goal
 

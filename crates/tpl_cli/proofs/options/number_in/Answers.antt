@@ -1,4 +1,4 @@
-use Rattle.std.proofs.Common.{Some, None, arith}
+use Rattle.std.proofs.Common.{None, arith}
 use Rattle.clap.specs.Words.{found_of}
 use Rattle.tpl_cli.proofs.GivenOptions.{number_read, given_read, within}
 use Rattle.tpl_cli.proofs.options.number_in.Goals as goal

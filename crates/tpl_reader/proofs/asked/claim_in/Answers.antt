@@ -1,10 +1,10 @@
-use Rattle.std.proofs.Common.{◌≡◌, ◌∙◌, List, Bool, true, false, map, refl, sym, ap}
+use Rattle.std.proofs.Common.{◌≡◌, ◌∙◌, List, true, false, map, refl, sym, ap}
 use Rattle.std.specs.Prelude.{◌||◌}
 use Rattle.std.proofs.lemmas.Result.{err_from_is_err_and}
 use Rattle.tpl_model.specs.declared.claim.Given.{Given}
 use Rattle.tpl_parts.specs.declared.named.NamedGiven.{NamedGiven}
 use Rattle.tpl_graph.specs.Fits.{given_twice}
-use Rattle.tpl_parts.specs.SeenClaims.{given_of, property_of, claim_of}
+use Rattle.tpl_parts.specs.SeenClaims.{given_of, claim_of}
 use Rattle.tpl_reader.specs.Asked.{singles_in, says_twice, claim_in}
 use Rattle.tpl_json.proofs.Passes.{fails_bind, want_of_memory}
 use Rattle.tpl_reader.proofs.Asking.{asked}

@@ -1,4 +1,4 @@
-use Rattle.std.proofs.Common.{◌≡◌, map, length, arith}
+use Rattle.std.proofs.Common.{map, length, arith}
 use Rattle.std.proofs.lemmas.List.{length-map}
 use Rattle.tpl_parts.specs.SeenClaims.{claim_of}
 use Rattle.tpl_reader.proofs.Asking.{all_asked_fit, yields_few, too_many}

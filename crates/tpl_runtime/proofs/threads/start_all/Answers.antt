@@ -1,4 +1,4 @@
-use Rattle.std.proofs.Common.{◌∙◌, [], ◌∷◌, ◌++◌, suc, rules, arith, ap, sym, subst, map, append_assoc}
+use Rattle.std.proofs.Common.{◌∙◌, [], ◌∷◌, ◌++◌, suc, arith, ap, sym, subst, map, append_assoc}
 use Rattle.std.specs.Prelude.{All}
 use Rattle.std.specs.Vec.Iter.{into_iter_items}
 use Rattle.tpl_hall.specs.Views.{SeatView}

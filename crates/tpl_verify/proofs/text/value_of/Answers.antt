@@ -1,4 +1,3 @@
-use Rattle.std.proofs.Common.{refl}
 use Rattle.serde_json.specs.View.{view}
 use Rattle.tpl_reader.specs.SeenDocument.{doc_of}
 use Rattle.tpl_verify.proofs.Filling.{form_of}

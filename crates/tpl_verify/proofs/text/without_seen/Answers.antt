@@ -1,5 +1,5 @@
-use Rattle.std.proofs.Common.{◌≡◌, None, Option, String, Global, Bor, ap, sym, ◌∙◌, codes}
-use Rattle.serde_json.specs.Data.{Data, Members, object}
+use Rattle.std.proofs.Common.{◌≡◌, ap, sym, ◌∙◌, codes}
+use Rattle.serde_json.specs.Data.{Members, object}
 use Rattle.serde_json.specs.View.{view, members_view}
 use Rattle.serde_json.specs.Find.{get_member}
 use Rattle.serde_json.proofs.Views.{view-Object}
