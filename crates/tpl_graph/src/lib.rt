@@ -1,4 +1,9 @@
 //! Valid task graphs with their names, and which claims can be asked of one.
+//!
+//! ## Choices
+//!
+//! - **Claims stand with graphs**: whether a claim can be asked is a question to a graph. So reading and checking
+//!   documents doesn't wait for the proofs of runs.
 #![tactic(auto)]
 
 mod check;

@@ -1,4 +1,10 @@
 //! Values of JSON, read part by part: members by their names, elements of arrays, texts, truths, and sets of final statuses.
+//!
+//! ## Choices
+//!
+//! - **What reads one JSON value is a crate of its own**, below certificates and documents. Its lemmas are over
+//!   types, so none can be a clause: `tpl_cert`, `tpl_parts`, `tpl_reader`, `tpl_commands` and `tpl_verify` cite them
+//!   by name.
 #![tactic(auto)]
 
 mod finals;

@@ -42,14 +42,12 @@ module _ (paths : PathLaws) where
   proves_lem g l rows (After a b) =
       either ((row rows b.0).runs ≡ false) (mem a.0 (row rows b.0).before ≡ true) (not (row rows b.0).runs) (mem a.0 (row rows b.0).before) (opposite (row rows b.0).runs) (itself (mem a.0 (row rows b.0).before))
   proves_lem g l rows (Observed t) =
-      either ((row rows t.0).chain ≡ [] → ⊥) ((has (row rows t.0).ends Faulted ≡ false) ⊎ ((row rows t.0).runs ≡ false) ⊎ (MayThrow (view g l rows t.0) (body g t.0) → ⊥) ⊎ ((l.wide ≡ true) × NoneComplete g rows))
-      (not (is_none (row rows t.0).chain)) (not (has (row rows t.0).ends Faulted) || (not (row rows t.0).runs || (not (may_throw g l rows t.0) || (l.wide && none_complete g rows))))
+      either ((row rows t.0).chain ≡ [] → ⊥) ((has (row rows t.0).ends Faulted ≡ false) ⊎ ((row rows t.0).runs ≡ false) ⊎ (MayThrow (view g l rows t.0) (body g t.0) → ⊥))
+      (not (is_none (row rows t.0).chain)) (not (has (row rows t.0).ends Faulted) || (not (row rows t.0).runs || not (may_throw g l rows t.0)))
       (denied ((row rows t.0).chain ≡ []) (is_none (row rows t.0).chain) (none_decided paths (row rows t.0).chain))
-      (either (has (row rows t.0).ends Faulted ≡ false) (((row rows t.0).runs ≡ false) ⊎ (MayThrow (view g l rows t.0) (body g t.0) → ⊥) ⊎ ((l.wide ≡ true) × NoneComplete g rows)) (not (has (row rows t.0).ends Faulted)) (not (row rows t.0).runs || (not (may_throw g l rows t.0) || (l.wide && none_complete g rows))) (opposite (has (row rows t.0).ends Faulted))
-      (either ((row rows t.0).runs ≡ false) ((MayThrow (view g l rows t.0) (body g t.0) → ⊥) ⊎ ((l.wide ≡ true) × NoneComplete g rows)) (not (row rows t.0).runs) (not (may_throw g l rows t.0) || (l.wide && none_complete g rows)) (opposite (row rows t.0).runs)
-      (either (MayThrow (view g l rows t.0) (body g t.0) → ⊥) ((l.wide ≡ true) × NoneComplete g rows) (not (may_throw g l rows t.0)) (l.wide && none_complete g rows)
-      (denied (MayThrow (view g l rows t.0) (body g t.0)) (may_throw g l rows t.0) (throws_it paths (view g l rows t.0) (body g t.0)))
-      (both (l.wide ≡ true) (NoneComplete g rows) l.wide (none_complete g rows) (itself l.wide) (none_complete_decided paths g rows)))))
+      (either (has (row rows t.0).ends Faulted ≡ false) (((row rows t.0).runs ≡ false) ⊎ (MayThrow (view g l rows t.0) (body g t.0) → ⊥)) (not (has (row rows t.0).ends Faulted)) (not (row rows t.0).runs || not (may_throw g l rows t.0)) (opposite (has (row rows t.0).ends Faulted))
+      (either ((row rows t.0).runs ≡ false) (MayThrow (view g l rows t.0) (body g t.0) → ⊥) (not (row rows t.0).runs) (not (may_throw g l rows t.0)) (opposite (row rows t.0).runs)
+      (denied (MayThrow (view g l rows t.0) (body g t.0)) (may_throw g l rows t.0) (throws_it paths (view g l rows t.0) (body g t.0)))))
   proves_lem g l rows (Never t) = opposite (row rows t.0).runs
   proves_lem g l rows (Excludes a b) =
       either ((row rows a.0).runs ≡ false) ((row rows b.0).runs ≡ false) (not (row rows a.0).runs) (not (row rows b.0).runs) (opposite (row rows a.0).runs) (opposite (row rows b.0).runs)

@@ -254,7 +254,7 @@ module _ (g : TaskGraph) (v : List Bool) (h : List Event) (valid : IsGraph g) (r
   left_from (suc t) cut left = left_from t (narrowed_by g t (kind g t) cut) (left_by cut t (kind g t) refl left)
 
   -- a run agrees with what is left, narrowed
-  pub narrowed_agrees : (l : WideAssumed) → WideAgrees g l v h → Left l.assumed.cut → WideAgrees g (narrowed g l) v h
+  pub narrowed_agrees : (l : WideAssumed) → WideAgrees g l v h → Left l.assumed.left → WideAgrees g (narrowed g l) v h
   narrowed_agrees l ag left = record {
     agrees = record {
       inputs = ag.agrees.inputs;
@@ -267,8 +267,8 @@ module _ (g : TaskGraph) (v : List Bool) (h : List Event) (valid : IsGraph g) (r
     where
       ends_left : (t : ℕ) (f : Final) → final g v h t ≡ Some f → end_left (narrowed g l).assumed t f ≡ true
       ends_left t f e =
-          let both = and_parts (l.assumed.cut t f) (l.assumed.ended t f) (ag.agrees.ends t f e) in
-          and_from (narrowed_from g (length g.tasks) l.assumed.cut t f) (l.assumed.ended t f) (subst (λ z. narrowed_from g (length g.tasks) l.assumed.cut t z ≡ true) (destiny_ended g v h t f e) (left_from (length g.tasks) l.assumed.cut left t)) both.1
+          let both = and_parts (l.assumed.left t f) (l.assumed.ended t f) (ag.agrees.ends t f e) in
+          and_from (narrowed_from g (length g.tasks) l.assumed.left t f) (l.assumed.ended t f) (subst (λ z. narrowed_from g (length g.tasks) l.assumed.left t z ≡ true) (destiny_ended g v h t f e) (left_from (length g.tasks) l.assumed.left left t)) both.1
 
 -- what is narrowed was left before
 pub narrowed_less : (g : TaskGraph) (n : ℕ) (cut : ℕ → Final → Bool) (s : ℕ) (f : Final) → narrowed_from g n cut s f ≡ true → cut s f ≡ true

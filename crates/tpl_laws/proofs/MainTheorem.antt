@@ -1,4 +1,6 @@
 -- Some leaf of each tree agrees with a run so far, and what leaves show of the beginnings of a run holds of it.
+use Rattle.tpl_model.specs.declared.rule_set.RuleSet.TheVariants.{Narrow, Wide}
+use Rattle.tpl_model.specs.declared.rule_set.RuleSet.{RuleSet}
 use Rattle.tpl_laws.proofs.Sources.{through_more, through_twice}
 use Rattle.tpl_model.specs.declared.finals.Final.{Final}
 use Rattle.tpl_model.specs.declared.finals.Final.TheVariants.{RanToCompletion, Canceled, Faulted}
@@ -88,8 +90,8 @@ given_jobs g v h (Input j value ∷ given) site i e = given_jobs g v h given sit
 given_jobs g v h (Quiet n ∷ given) site i e = given_jobs g v h given site i.1 e
 given_jobs g v h (Ended t ends ∷ given) site i e = given_jobs g v h given site i.1 e
 
-pub given_agrees : (wide : Bool) (g : TaskGraph) (v : List Bool) (h : List Event) (given : List Given) → IsGiven g v h given → Agrees g (assumed wide g given) v h
-given_agrees wide g v h given i = record {
+pub given_agrees : (g : TaskGraph) (v : List Bool) (h : List Event) (given : List Given) → IsGiven g v h given → Agrees g (assumed g given) v h
+given_agrees g v h given i = record {
   inputs = λ n. given_inputs g v h given n i;
   quiet = λ k e. given_tokens g v h given k i e;
   ends = λ t f e. given_ends g v h given t f i e;
@@ -115,8 +117,8 @@ end_agrees g l v h t f ends agrees = record {
   inputs = agrees.inputs;
   quiet = agrees.quiet;
   ends = λ s e q.
-      let p = and_parts (l.cut s e) (l.ended s e) (agrees.ends s e q) in
-      and_from (l.cut s e && (not (nat_eq t s) || is_final f e)) (l.ended s e) (and_from (l.cut s e) (not (nat_eq t s) || is_final f e) p.0 (by_test s e q (nat_eq t s) refl)) p.1;
+      let p = and_parts (l.left s e) (l.ended s e) (agrees.ends s e q) in
+      and_from (l.left s e && (not (nat_eq t s) || is_final f e)) (l.ended s e) (and_from (l.left s e) (not (nat_eq t s) || is_final f e) p.0 (by_test s e q (nat_eq t s) refl)) p.1;
   jobs = agrees.jobs;
 }
   where
@@ -154,7 +156,7 @@ leaf_agrees g l (SplitEnd t a b c) v h agrees =
 leaf_agrees g l (Leaf rows) v h agrees = (l, rows, (refl, refl), agrees)
 
 pub some_leaf_lem : SomeLeafAgrees
-some_leaf_lem wide g given tree v h i = leaf_agrees g (assumed wide g given) tree v h (given_agrees wide g v h given i)
+some_leaf_lem g given tree v h i = leaf_agrees g (assumed g given) tree v h (given_agrees g v h given i)
 
 -- what is given stays so towards the first event
 given_before : (g : TaskGraph) (v : List Bool) (h : List Event) (a : Actor) (x : Act) (given : List Given) → Allows g v h a x → IsGiven g v (after a x h) given → IsGiven g v h given
@@ -178,9 +180,9 @@ both_given g v h (Ended t ends ∷ xs) ys i j = (i.0, both_given g v h xs ys i.1
 both_given g v h (Succeeds site ∷ xs) ys i j = (i.0, both_given g v h xs ys i.1 j)
 
 -- what may be taken as given is, where the claim's given is and the own tokens aren't requested
-pub is_taken : (wide : Bool) (g : TaskGraph) (claim : Claim) (v : List Bool) (h : List Event) → IsGiven g v h claim.given → IsGiven g v h (own_quiet g claim.body) → IsGiven g v h (taken wide g claim)
-is_taken true g claim v h i q = both_given g v h (own_quiet g claim.body) claim.given q i
-is_taken false g claim v h i q = i
+pub is_taken : (rules : RuleSet) (g : TaskGraph) (claim : Claim) (v : List Bool) (h : List Event) → IsGiven g v h claim.given → IsGiven g v h (own_quiet g claim.body) → IsGiven g v h (taken rules g claim)
+is_taken Wide g claim v h i q = both_given g v h (own_quiet g claim.body) claim.given q i
+is_taken Narrow g claim v h i q = i
 
 -- a token that isn't requested may be given as quiet
 not_asked : (g : TaskGraph) (v : List Bool) (h : List Event) (o : Option ℕ) → token_requested_by o (requested g v h) ≡ false → IsGiven g v h (as_quiet o)

@@ -17,7 +17,7 @@ use Rattle.tpl_model.specs.Rules.{final, subject, Run, seen, sees, carried_by, l
 use Rattle.tpl_model.specs.Paths.{MustObserve, passes_observe}
 use Rattle.tpl_laws.specs.RowTests.{faulted_view}
 use Rattle.tpl_laws.proofs.Basics.{some_none, the_some}
-use Rattle.tpl_laws.proofs.Kept.{after, running_facts, ending_kept, begun_kept, final_of}
+use Rattle.tpl_laws.proofs.Kept.{running_facts, ending_kept, begun_kept, final_of}
 use Rattle.tpl_model.specs.Certificate.{Row, Assumed, is_loud, TakesOver, Reads}
 use Rattle.tpl_laws.proofs.Execution.{passed, pushed, passes_or_stays, passes_running, stepped_or_before}
 use Rattle.tpl_laws.proofs.Follows.{Fits, follows, subject_kept, has_subject}

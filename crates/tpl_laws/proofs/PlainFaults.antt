@@ -1,4 +1,5 @@
 -- The first fault of a certificate of rows without tokens, and when there is none.
+use Rattle.tpl_model.specs.declared.rule_set.RuleSet.TheVariants.{Narrow}
 use Rattle.std.proofs.Common.{◌≡◌, ℕ, ◌+◌, ◌<◌, ◌++◌, Bool, true, false, Option, List, [], ◌∷◌, refl, ap, arith, length, nat_eq, nat_lt, length-append}
 use Rattle.std.specs.Prelude.{◌↔◌, Decides}
 use Rattle.std.specs.List.{AllByRecursion, AllZip}
@@ -119,8 +120,8 @@ module _ (paths : PathLaws) (g : TaskGraph) (valid : IsGraph g) where
     proved = proves_lem paths g b.assumes b.rows p;
   }
 
-  abbrev tests : (wide : Bool) → Tests g (certificates wide g)
-  tests wide = record {
+  abbrev tests : Tests g (certificates g)
+  tests = record {
     fits = fits g;
     shaped = shape_decided;
     misfit = misfit g;
@@ -129,35 +130,35 @@ module _ (paths : PathLaws) (g : TaskGraph) (valid : IsGraph g) where
     misfit_of_claim = λ n claim claims. refl;
     misfit_of_both = λ n claim claims tree trees. refl;
     leaf = leaf_tests;
-    tree = λ n claim tree. tree_fault g claim.body n (assumed_for wide g claim) 1 tree;
-    tree_is = λ n claim tree. tree_is g claim.body n (assumed_for wide g claim) 1 tree;
-    claims = claims_fault wide g;
+    tree = λ n claim tree. tree_fault g claim.body n (assumed_for Narrow g claim) 1 tree;
+    tree_is = λ n claim tree. tree_is g claim.body n (assumed_for Narrow g claim) 1 tree;
+    claims = claims_fault g;
     claims_of_none = λ n. refl;
     claims_of_more = λ n claim more tree trees. refl;
-    accepts = λ claim tree. leaves_accepted g claim.body (assumed_for wide g claim) tree;
-    accepted = λ claim tree a. (accepted_shape g claim.body (assumed_for wide g claim) tree a, accepted_leaves g claim.body (assumed_for wide g claim) tree a);
+    accepts = λ claim tree. leaves_accepted g claim.body (assumed_for Narrow g claim) tree;
+    accepted = λ claim tree a. (accepted_shape g claim.body (assumed_for Narrow g claim) tree a, accepted_leaves g claim.body (assumed_for Narrow g claim) tree a);
   }
 
 -- each tree is accepted just where the certificate is
-all_accepted : (wide : Bool) (g : TaskGraph) (claims : List Claim) (trees : List Tree) → AllZip (λ claim tree. AcceptsTree g claim.body (assumed_for wide g claim) tree) claims trees ↔ Accepts wide g claims trees
-all_accepted wide g [] [] = (λ a. a, λ a. a)
-all_accepted wide g [] (tree ∷ trees) = (λ a. a, λ a. a)
-all_accepted wide g (claim ∷ claims) [] = (λ a. a, λ a. a)
-all_accepted wide g (claim ∷ claims) (tree ∷ trees) = let rest = all_accepted wide g claims trees in (λ a. (a.0, rest.0 a.1), λ a. (a.0, rest.1 a.1))
+all_accepted : (g : TaskGraph) (claims : List Claim) (trees : List Tree) → AllZip (λ claim tree. AcceptsTree g claim.body (assumed_for Narrow g claim) tree) claims trees ↔ Accepts g claims trees
+all_accepted g [] [] = (λ a. a, λ a. a)
+all_accepted g [] (tree ∷ trees) = (λ a. a, λ a. a)
+all_accepted g (claim ∷ claims) [] = (λ a. a, λ a. a)
+all_accepted g (claim ∷ claims) (tree ∷ trees) = let rest = all_accepted g claims trees in (λ a. (a.0, rest.0 a.1), λ a. (a.0, rest.1 a.1))
 
 pub verdict_lem : PathLaws → VerdictIsRight
-verdict_lem paths wide g claims trees valid =
-    let none = finds_none g (certificates wide g) (tests paths g valid wide) claims trees in
-    let all = all_accepted wide g claims trees in
+verdict_lem paths g claims trees valid =
+    let none = finds_none g (certificates g) (tests paths g valid) claims trees in
+    let all = all_accepted g claims trees in
     (λ e. all.0 (none.0 e), λ a. none.1 (all.1 a))
 
 pub first_fault : PathLaws → FaultIsFirst
-first_fault paths wide g claims trees fault valid e = finds_first g (certificates wide g) (tests paths g valid wide) claims trees fault e
+first_fault paths g claims trees fault valid e = finds_first g (certificates g) (tests paths g valid) claims trees fault e
 
 pub one_fault : OneFirstFault
-one_fault wide g claims trees one other a b =
-    one_first g (certificates wide g) (are_sound g) (λ claim tree. accepted_leaves g claim.body (assumed_for wide g claim) tree) claims trees one other a b
+one_fault g claims trees one other a b =
+    one_first g (certificates g) (are_sound g) (λ claim tree. accepted_leaves g claim.body (assumed_for Narrow g claim) tree) claims trees one other a b
 
 -- the first fault names a task of the graph
-pub names_task : (wide : Bool) (g : TaskGraph) (claims : List Claim) (trees : List Tree) (claim leaf : ℕ) (t : TaskId) (rule : Rule) → IsFirstFault wide g claims trees (NotClosed claim leaf t rule) → is_task g t.0
-names_task wide g claims trees claim leaf t rule f = first_names g (certificates wide g) claims trees claim leaf t rule f
+pub names_task : (g : TaskGraph) (claims : List Claim) (trees : List Tree) (claim leaf : ℕ) (t : TaskId) (rule : Rule) → IsFirstFault g claims trees (NotClosed claim leaf t rule) → is_task g t.0
+names_task g claims trees claim leaf t rule f = first_names g (certificates g) claims trees claim leaf t rule f

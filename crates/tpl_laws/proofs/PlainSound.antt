@@ -4,10 +4,8 @@ use Rattle.tpl_model.specs.Knowledge.{IsSettled}
 use Rattle.tpl_model.specs.Graph.{TaskGraph}
 use Rattle.tpl_model.specs.declared.event.Event.{Event}
 use Rattle.tpl_model.specs.WiderRules.{WideRow, plain, as_wide, as_wide_tree, WideAssumed}
-use Rattle.tpl_model.specs.Certificate.{Accepts}
 use Rattle.tpl_laws.specs.Soundness.{RowsHold, BeforeHolds, RowsAreTrue, Soundness}
 use Rattle.tpl_laws.specs.WiderSoundness.{BeginHolds}
-use Rattle.tpl_laws.proofs.Wider.{wider_accepts_lem}
 use Rattle.tpl_laws.proofs.WideLaw.{plain_wide, tokens_are_more_lem, tokens_accept_more_lem}
 use Rattle.tpl_laws.proofs.WideSound.{wide_rows_lem, wide_soundness_lem}
 
@@ -23,10 +21,6 @@ rows_lem g l rows v h valid closed run agrees =
     record { ends = holds.0.ends; runs = holds.0.runs; past = λ t x e m. holds.0.end t (IsSettled x) e m; observed = holds.0.observed } in
     subst (λ z. RowsHold g z v h × BeforeHolds g z v h) (plain_wide rows) (plainly, before_holds g (as_wide rows) v h holds.1)
 
--- the narrow rules accept no more than the wide ones, and those no more than the ones with tokens
+-- the narrow rules accept no more than the wide ones
 pub soundness_lem : Soundness
-soundness_lem wide g claims trees valid acc v h run = wide_soundness_lem g claims (map as_wide_tree trees) valid (tokens_accept_more_lem g claims trees (widely wide acc)) v h run
-  where
-    widely : (wide : Bool) → Accepts wide g claims trees → Accepts true g claims trees
-    widely true acc = acc
-    widely false acc = wider_accepts_lem g claims trees acc
+soundness_lem g claims trees valid acc v h run = wide_soundness_lem g claims (map as_wide_tree trees) valid (tokens_accept_more_lem g claims trees acc) v h run

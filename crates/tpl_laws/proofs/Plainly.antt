@@ -32,7 +32,7 @@ same_plain ts us e = sym (all_without ts) ∙ ap (map without) e ∙ all_without
 -- ---- the laws
 
 pub sound_lem : Soundness → WideSoundness → SoundByRules
-sound_lem sound wide Narrow g claims trees valid acc v h run = sound false g claims acc.0 valid acc.2 v h run
+sound_lem sound wide Narrow g claims trees valid acc v h run = sound g claims acc.0 valid acc.2 v h run
 sound_lem sound wide Wide g claims trees valid acc v h run = wide g claims trees valid acc v h run
 
 pub accepted_lem : TokensAcceptMore → PlainIsAccepted
@@ -40,4 +40,4 @@ accepted_lem more Narrow g claims trees acc = (trees, refl, acc)
 accepted_lem more Wide g claims trees acc = more g claims trees acc
 
 pub refused_lem : PlainIsRefused
-refused_lem g claims trees refused acc = refused (subst (Accepts false g claims) (sym (same_plain trees acc.0 acc.1)) acc.2)
+refused_lem g claims trees refused acc = refused (subst (Accepts g claims) (sym (same_plain trees acc.0 acc.1)) acc.2)

@@ -16,7 +16,7 @@ use Rattle.tpl_model.specs.Graph.{TaskGraph, TaskKind, Root, Child, Continues, W
 use Rattle.tpl_model.specs.Rules.{to_end}
 use Rattle.tpl_model.specs.Valid.{IsGraph}
 use Rattle.tpl_model.specs.Paths.{Known, Path, MayEnd, MayThrow, MayStartChild, MustObserve}
-use Rattle.tpl_model.specs.Certificate.{Row, row, Assumed, end_left, is_loud, view, IsBelow, RunsRule, BodyMayEnd, MayBeCanceled, AllMayEnd, MayEndAs, BeforeRule, may_end_early, may_end, may_win, PastRule, TakesOver, Reads, Links, ChainRule, NoneComplete}
+use Rattle.tpl_model.specs.Certificate.{Row, row, Assumed, end_left, is_loud, view, IsBelow, RunsRule, BodyMayEnd, MayBeCanceled, AllMayEnd, MayEndAs, BeforeRule, may_end_early, may_end, PastRule, TakesOver, Reads, Links, ChainRule, NoneComplete}
 use Rattle.tpl_model.specs.Recursion.{may, none, is_throw, must_observe, reaches}
 use Rattle.tpl_laws.specs.RowTests.{implies, all_in, some_end, parent_of, by_parent, is_below, runs_by, runs, is_return, is_acknowledgement, may_throw, body_may_end, may_be_canceled, all_may_end, may_end_as, ends, before_by, before, past_by, past, is_argument, takes_over, continues, faulted_view, reads, links, chain_by, chain, is_none, none_complete}
 use Rattle.tpl_laws.proofs.Parents.{at_parent, below}
@@ -194,8 +194,7 @@ module _ (paths : PathLaws) where
       (both (may_end_early g l rows t ≡ false) ((x ≡ a) ⊎ (mem x (row rows a).past ≡ true)) (not (may_end_early g l rows t)) (nat_eq x a || mem x (row rows a).past) (opposite (may_end_early g l rows t)) (or_past rows x a)) (below g t x valid)
   past_decided g l rows t valid (WhenAll args) x = of_some (λ y. (x ≡ y) ⊎ (mem x (row rows y).past ≡ true)) (λ y. nat_eq x y || mem x (row rows y).past) args (λ y. or_past rows x y)
   past_decided g l rows t valid (WhenAny args) x =
-      of_all (λ y. may_win l rows y ≡ true → (x ≡ y) ⊎ (mem x (row rows y).past ≡ true)) (λ y. implies (may_win l rows y) (nat_eq x y || mem x (row rows y).past)) args
-      (λ y. only_if (may_win l rows y ≡ true) ((x ≡ y) ⊎ (mem x (row rows y).past ≡ true)) (may_win l rows y) (nat_eq x y || mem x (row rows y).past) (itself (may_win l rows y)) (or_past rows x y))
+      of_all (λ y. (x ≡ y) ⊎ (mem x (row rows y).past ≡ true)) (λ y. nat_eq x y || mem x (row rows y).past) args (λ y. or_past rows x y)
 
   pub past_lem : (g : TaskGraph) (l : Assumed) (rows : List Row) (t : ℕ) → IsGraph g → Decides (past g l rows t) ((x : ℕ) → mem x (row rows t).past ≡ true → PastRule g l rows t (kind g t) x)
   past_lem g l rows t valid = of_all (PastRule g l rows t (kind g t)) (past_by g l rows t (kind g t)) (row rows t).past (λ x. past_decided g l rows t valid (kind g t) x)

@@ -1,4 +1,5 @@
 -- Rows that are closed without tokens are closed with them.
+use Rattle.tpl_model.specs.declared.rule_set.RuleSet.TheVariants.{Narrow, Wide}
 use Rattle.std.proofs.Common.{◌≡◌, ℕ, zero, suc, ◌&&◌, ◌||◌, ◌⊎◌, inl, inr, not, Bool, true, false, if◌then◌else◌, Some, None, List, [], ◌∷◌, filter, length, refl, sym, ap, ◌∙◌, subst, nat_eq}
 use Rattle.std.proofs.lemmas.Bool.{and_from, or_cases, or_left, or_right, not_from_false}
 use Rattle.tpl_model.proofs.MemberLemmas.{same_self}
@@ -15,11 +16,11 @@ use Rattle.tpl_model.specs.Graph.{TaskGraph, TaskKind, Root, Child, Continues, W
 use Rattle.tpl_model.specs.declared.ids.TaskId.{TaskId}
 use Rattle.tpl_model.specs.declared.claim.Property.{Property}
 use Rattle.tpl_model.specs.declared.claim.Property.TheVariants.{Observed}
-use Rattle.tpl_model.specs.Certificate.{Row, row, Tree, SplitInput, SplitEnd, Leaf, end_left, is_loud, one_ends, subject_ends, subject_set, view, RunsRule, BodyMayEnd, MayEndAs, BeforeRule, may_end_early, may_end, PastRule, Links, ChainRule, Closed, Proves, IdsOfRows, AcceptsTree}
+use Rattle.tpl_model.specs.Certificate.{Row, row, Tree, SplitInput, SplitEnd, Leaf, end_left, is_loud, one_ends, subject_ends, subject_set, view, RunsRule, BodyMayEnd, MayEndAs, BeforeRule, may_end_early, may_end, PastRule, Links, ChainRule, Closed, Proves, IdsOfRows, AcceptsTree, assumed_for}
 use Rattle.tpl_model.specs.WiderRules.{WideRow, plain, wide_row, begins_with, ends_with, once_ended, WideAssumed, with_winners, kind_left, subject_left, wide_view, reading, asked_of, known_at_end, known_at_start, may_run, WideRunsRule, Way, ByBody, RootDropped, ChildDropped, DroppedEarly, DroppedLate, NotAllowed, way_final, MayEndBy, IsWay, HoldsBy, WideEndsRule, BeginRule, EndRule, WideLinks, WideChainRule, WidelyClosed, WidelyProves, TokensOfRows, narrowed, input_split, end_split, widely_assumed, as_wide, as_wide_tree}
 use Rattle.tpl_laws.specs.WideTrees.{AcceptsWideTree}
 use Rattle.tpl_laws.specs.Wider.{AssumesMore}
-use Rattle.tpl_laws.proofs.Wider.{KnowsMore, may_end_more, may_throw_more, may_start_more, more_is_assumed_lem}
+use Rattle.tpl_laws.proofs.Wider.{KnowsMore, may_end_more, may_throw_more, may_start_more, more_is_assumed_lem, tree_more, wide_more}
 use Rattle.tpl_laws.proofs.Destinies.{narrowed_less}
 use Rattle.tpl_laws.specs.WiderSoundness.{TokensAreMore, TokensAcceptMore}
 use Rattle.tpl_laws.proofs.Basics.{is_some_of}
@@ -195,7 +196,7 @@ module _ (g : TaskGraph) (l : WideAssumed) (rows : List WideRow) (nothing : (t :
   end_more t (Continues a) x i same (inl c) = inr (late_holds t a x i same c.0 (or_once x a c.1))
   end_more t (Continues a) x i same (inr c) = inl c
   end_more t (WhenAll args) x i same c = (c.0, c.1, or_once x c.0 c.2)
-  end_more t (WhenAny args) x i same c = λ y m e. or_once x y (c y (mem_filter (l.wins t) y args m) (or_right (not l.assumed.wide) (may_end flat y) e))
+  end_more t (WhenAny args) x i same c = λ y m e. or_once x y (c y (mem_filter (l.wins t) y args m))
 
   links_more : (y : ℕ) (xs : List ℕ) → Links g l.assumed flat y xs → WideLinks g l rows y xs
   links_more y [] c = c
@@ -227,9 +228,8 @@ proves_more : (g : TaskGraph) (l : WideAssumed) (rows : List WideRow) (p : Prope
 proves_more g l rows (Observed t) (inl p) = inl p
 proves_more g l rows (Observed t) (inr (inl p)) = inr (inl p)
 proves_more g l rows (Observed t) (inr (inr (inl p))) = inr (inr (inl p))
-proves_more g l rows (Observed t) (inr (inr (inr (inl p)))) =
+proves_more g l rows (Observed t) (inr (inr (inr p))) =
     inr (inr (inr (inl (none_of Knowledge (at_throw (reading g l rows t.0) (asked_of rows t.0) (body g t.0)) (λ e. p (may_throw_more (view g l.assumed (plain rows) t.0) (wide_view g l rows t.0) (body g t.0) (view_more g l rows t.0) (may_throw (reading g l rows t.0) (asked_of rows t.0) (body g t.0) e)))))))
-proves_more g l rows (Observed t) (inr (inr (inr (inr p)))) = inr (inr (inr (inr p.1)))
 proves_more g l rows other p = p
 
 pub tokens_are_more_lem : TokensAreMore
@@ -243,27 +243,29 @@ narrowed_more : (g : TaskGraph) (l : WideAssumed) → AssumesMore l.assumed (nar
 narrowed_more g l = record {
   possible = λ i value e. e;
   quiet = λ k e. e;
-  cut = λ t f e. narrowed_less g (length g.tasks) l.assumed.cut t f e;
+  left = λ t f e. narrowed_less g (length g.tasks) l.assumed.left t f e;
   ended = λ t f e. e;
   sure = λ site e. e;
-  wide = λ e. e;
 }
 
-tree_more : (g : TaskGraph) (p : Property TaskId) (l : WideAssumed) (tree : Tree) → AcceptsTree g p l.assumed tree → AcceptsWideTree g p l (as_wide_tree tree)
-tree_more g p l (SplitInput i a b) acc = (acc.0, tree_more g p (input_split l i true) a acc.1, tree_more g p (input_split l i false) b acc.2)
-tree_more g p l (SplitEnd t a b c) acc = (
+tree_accepted : (g : TaskGraph) (p : Property TaskId) (l : WideAssumed) (tree : Tree) → AcceptsTree g p l.assumed tree → AcceptsWideTree g p l (as_wide_tree tree)
+tree_accepted g p l (SplitInput i a b) acc = (acc.0, tree_accepted g p (input_split l i true) a acc.1, tree_accepted g p (input_split l i false) b acc.2)
+tree_accepted g p l (SplitEnd t a b c) acc = (
   acc.0,
-  tree_more g p (end_split l t RanToCompletion) a acc.1,
-  tree_more g p (end_split l t Canceled) b acc.2,
-  tree_more g p (end_split l t Faulted) c acc.3,
+  tree_accepted g p (end_split l t RanToCompletion) a acc.1,
+  tree_accepted g p (end_split l t Canceled) b acc.2,
+  tree_accepted g p (end_split l t Faulted) c acc.3,
 )
-tree_more g p l (Leaf rows) acc =
+tree_accepted g p l (Leaf rows) acc =
     let n = more_is_assumed_lem g l.assumed (narrowed g l).assumed rows (narrowed_more g l) acc.2 in
     let m = tokens_are_more_lem g (narrowed g l) rows n.0 in
     (same_length rows ∙ acc.0, subst (IdsOfRows g) (sym (plain_wide rows)) acc.1, no_ids g rows, (m.0, m.1 p (n.1 p acc.3)))
 
 pub tokens_accept_more_lem : TokensAcceptMore
 tokens_accept_more_lem g [] [] acc = tt
-tokens_accept_more_lem g (claim ∷ claims) (tree ∷ trees) acc = (tree_more g claim.body (widely_assumed g claim) tree acc.0, tokens_accept_more_lem g claims trees acc.1)
+tokens_accept_more_lem g (claim ∷ claims) (tree ∷ trees) acc = (
+  tree_accepted g claim.body (widely_assumed g claim) tree (tree_more g claim.body (assumed_for Narrow g claim) (assumed_for Wide g claim) tree (wide_more g claim.given claim.body) acc.0),
+  tokens_accept_more_lem g claims trees acc.1,
+)
 tokens_accept_more_lem g [] (tree ∷ trees) acc = acc
 tokens_accept_more_lem g (claim ∷ claims) [] acc = acc

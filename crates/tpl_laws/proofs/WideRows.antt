@@ -12,9 +12,9 @@ use Rattle.tpl_model.specs.declared.outcome.Outcome.{Outcome}
 use Rattle.tpl_model.specs.declared.outcome.Outcome.TheVariants.{Returned, Threw, Acknowledged}
 use Rattle.tpl_model.specs.Statements.{Statement, Start, Statements, ◌⨾◌}
 use Rattle.tpl_model.specs.Paths.{passes_start}
-use Rattle.tpl_model.specs.Knowledge.{Fact, IsSettled, IsRequested, Knowledge, ChildEnd, all, ending_as, throwing, at_throw}
+use Rattle.tpl_model.specs.Knowledge.{Fact, IsSettled, IsRequested, Knowledge, ChildEnd, as_facts, all, ending_as, throwing, at_throw}
 use Rattle.tpl_model.proofs.Known.{under_trans}
-use Rattle.tpl_model.proofs.KnownPaths.{told_by, later_on, is_burdened, burdens, facts_of, MayChoose, one, all_one, path_final, ending_as_falls, throwing_falls, ending_one, end_known, within_some, known_where_started, chooses, burdened_start, start_burdens, later_started}
+use Rattle.tpl_model.proofs.KnownPaths.{told_by, later_by, is_burdened, burdens, facts_of, MayChoose, one, all_one, path_final, ending_as_falls, throwing_falls, ending_one, end_known, within_some, known_where_started, chooses, burdened_start, start_burdens, later_told}
 use Rattle.tpl_model.specs.Graph.{TaskGraph, TaskKind, Root, Child, Continues, WhenAll, WhenAny, task, kind, body, options, is_task, attached}
 use Rattle.tpl_model.specs.declared.status.Actor.{Actor}
 use Rattle.tpl_model.specs.declared.event.Act.{Act}
@@ -287,7 +287,7 @@ module _ (g : TaskGraph) (l : WideAssumed) (rows : List WideRow) (v : List Bool)
       let chosen : ℕ → Final = λ c. end_or (ending g v h c) in
       let told = (now.true_rows.told t b).1 in
       let burdened = is_burdened w.child chosen (passed g v h t) in
-      let known : Knowledge = record { requested = told_by (linked g) (asked_of rows t) (rest g v h t).outcome (passed g v h t); later = later_on w.child (passed g v h t) } in
+      let known : Knowledge = record { requested = told_by (linked g) (asked_of rows t) (rest g v h t).outcome (passed g v h t); later = later_by (linked g) (asked_of rows t) w.child (rest g v h t).outcome (passed g v h t) } in
       let under = end_known throwing w throwing_falls (asked_of rows t) chosen (body g t) (rest g v h t).outcome (rest g v h t).left (passed g v h t) (Threw lb) o
       (path_of t b) (chooses w.child chosen (passed g v h t) (ends_chosen t (λ c m s. children_over g v h t c now.valid now.run e m s))) told in
       let whole = at_throw w (asked_of rows t) (body g t) in
@@ -360,17 +360,24 @@ module _ (g : TaskGraph) (l : WideAssumed) (rows : List WideRow) (v : List Bool)
 
     -- what the path of the body knows at its end
     abbrev path_knows : Knowledge
-    path_knows = record { requested = told_by (linked g) (asked_of rows t) (rest g v h t).outcome (passed g v h t); later = later_on child (passed g v h t) }
+    path_knows = record { requested = told_by (linked g) (asked_of rows t) (rest g v h t).outcome (passed g v h t); later = later_by (linked g) (asked_of rows t) child (rest g v h t).outcome (passed g v h t) }
 
     knows_requested : (k : ℕ) → path_knows.requested k ≡ true → requested g v h k ≡ true
     knows_requested k e = (now.true_rows.told t b.begun).0 k e
 
     knows_later : (fact : Fact) → path_knows.later fact ≡ true → FactHolds g v h fact
     knows_later fact e =
-        let s = later_started child (passed g v h t) fact e in
-        let m = facts_if (mem s.0 (attached g t)) (an_end s.0) fact s.2 in
-        let c = child_over s.0 m.0 s.1 in
-        now.true_rows.end s.0 fact (is_some_of (ending g v h s.0) c.0 c.1) m.1
+        elim (later_told (linked g) (asked_of rows t) child fact (rest g v h t).outcome (passed g v h t) e) [
+          | inl s ↦
+              let m = facts_if (mem s.0 (attached g t)) (an_end s.0) fact s.2 in
+              let c = child_over s.0 m.0 s.1 in
+              now.true_rows.end s.0 fact (is_some_of (ending g v h s.0) c.0 c.1) m.1
+          | inr q ↦ token_holds fact q
+        ]
+      where
+        token_holds : (fact : Fact) → as_facts path_knows.requested fact ≡ true → FactHolds g v h fact
+        token_holds (IsSettled x) q = true_false (sym q)
+        token_holds (IsRequested k) q = knows_requested k q
 
     pub body_way : WayTaken g l rows v h t (kind g t) r.final
     body_way =
@@ -390,10 +397,7 @@ module _ (g : TaskGraph) (l : WideAssumed) (rows : List WideRow) (v : List Bool)
             | inl m ↦ now.true_rows.begin t fact b.begun m
             | inr d ↦ elim d [
               | inl m ↦ ready_holds t (kind g t) fact ready m
-              | inr e ↦ elim e [
-                | inl m ↦ there_holds found.0 fact (λ k q. knows_requested k (found.2 k q)) m
-                | inr m ↦ knows_later fact (found.3 fact m)
-              ]
+              | inr m ↦ knows_later fact (found.3 fact m)
             ]
           ];
         }

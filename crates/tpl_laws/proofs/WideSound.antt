@@ -1,4 +1,5 @@
 -- What a certificate of rows with tokens proves holds.
+use Rattle.tpl_model.specs.declared.rule_set.RuleSet.TheVariants.{Wide}
 use Rattle.std.proofs.Common.{◌≡◌, ℕ, ◌||◌, inl, inr, not, nat_eq, Bool, true, false, Option, Some, None, List, [], ◌∷◌, refl, sym, ap, ◌∙◌, subst}
 use Rattle.std.proofs.lemmas.Option.{same_Some}
 use Rattle.std.proofs.lemmas.Bool.{cases_Bool, and_from}
@@ -76,10 +77,10 @@ record AWideLeaf (g : TaskGraph) (p : Property TaskId) (tree : WideTree) (v : Li
 -- winner the branch of the winner, or either while there is none
 module _ (g : TaskGraph) (p : Property TaskId) (v : List Bool) (h : List Event) (valid : IsGraph g) (run : Run g v h) where
   abbrev Bound : WideAssumed → Type 0
-  Bound l = (s : ℕ) → l.assumed.cut s (destiny g v h s) ≡ true
+  Bound l = (s : ℕ) → l.assumed.left s (destiny g v h s) ≡ true
 
   bound_end : (l : WideAssumed) (t : ℕ) (f : Final) → destiny g v h t ≡ f → Bound l → Bound (end_split l t f)
-  bound_end l t f e b = λ s. and_from (l.assumed.cut s (destiny g v h s)) (not (nat_eq t s) || is_final f (destiny g v h s)) (b s) (by_test s (nat_eq t s) refl)
+  bound_end l t f e b = λ s. and_from (l.assumed.left s (destiny g v h s)) (not (nat_eq t s) || is_final f (destiny g v h s)) (b s) (by_test s (nat_eq t s) refl)
     where
       by_test : (s : ℕ) (c : Bool) → nat_eq t s ≡ c → not c || is_final f (destiny g v h s) ≡ true
       by_test s false q = refl
@@ -148,7 +149,7 @@ module _ (g : TaskGraph) (p : Property TaskId) (v : List Bool) (h : List Event) 
 a_wide_leaf : (g : TaskGraph) (claim : Claim) (tree : WideTree) (v : List Bool) (h : List Event) → IsGraph g → AcceptsWideTree g claim.body (widely_assumed g claim) tree → Run g v h → IsGiven g v h claim.given → IsGiven g v h (own_quiet g claim.body) → ALeaf g v h claim.body
 a_wide_leaf g claim tree v h valid acc run i q =
     let w = some_leaf g claim.body v h valid run (widely_assumed g claim) tree
-    (record { agrees = given_agrees true g v h (taken true g claim) (is_taken true g claim v h i q); winners = λ n x e. refl }) (λ s. refl) acc in
+    (record { agrees = given_agrees g v h (taken Wide g claim) (is_taken Wide g claim v h i q); winners = λ n x e. refl }) (λ s. refl) acc in
     let now = wide_now g w.assumes w.rows v h valid w.closed run w.agrees in
     record {
       assumes = w.assumes.assumed;
@@ -170,5 +171,5 @@ wide_soundness_lem g (claim ∷ claims) [] valid acc v h run = absurd acc
 
 pub some_wide_leaf_lem : SomeWideLeafIsTrue
 some_wide_leaf_lem g claim tree v h valid acc run given =
-    let leaf = some_leaf g claim.body v h valid run (widely_assumed g claim) tree (record { agrees = given_agrees true g v h (taken true g claim) given; winners = λ n x e. refl }) (λ s. refl) acc in
+    let leaf = some_leaf g claim.body v h valid run (widely_assumed g claim) tree (record { agrees = given_agrees g v h (taken Wide g claim) given; winners = λ n x e. refl }) (λ s. refl) acc in
     (leaf.rows, leaf.has, (wide_rows_lem g leaf.assumes leaf.rows v h valid leaf.closed run leaf.agrees).0)

@@ -14,8 +14,8 @@ use Rattle.tpl_model.specs.declared.claim.Given.{Given}
 use Rattle.tpl_model.specs.declared.ids.TaskId.{TaskId}
 use Rattle.tpl_model.specs.declared.claim.Property.{Property}
 use Rattle.tpl_model.specs.declared.claim.Property.TheVariants.{After, Observed, Never, Excludes}
-use Rattle.tpl_model.specs.Certificate.{Row, row, Tree, SplitInput, SplitEnd, Leaf, Assumed, end_left, same, given_quiet, assumed, assumed_for, with_input, with_end, is_loud, loud_token, view, RunsRule, BodyMayEnd, MayBeCanceled, MayEndAs, may_end_early, may_end, may_win, PastRule, Reads, Links, ChainRule, Closed, Proves, AcceptsTree, as_quiet, same_token, own_quiet}
-use Rattle.tpl_laws.specs.Wider.{AssumesMore, MoreIsAssumed, WiderAccepts}
+use Rattle.tpl_model.specs.Certificate.{Row, row, Tree, SplitInput, SplitEnd, Leaf, Assumed, end_left, same, given_quiet, assumed, with_input, with_end, is_loud, loud_token, view, RunsRule, BodyMayEnd, MayBeCanceled, MayEndAs, may_end_early, PastRule, Reads, Links, ChainRule, Closed, Proves, AcceptsTree, as_quiet, same_token, own_quiet}
+use Rattle.tpl_laws.specs.Wider.{AssumesMore, MoreIsAssumed}
 
 -- u knows what w does, and maybe more
 pub record KnowsMore (w u : Known) : Type 0 where
@@ -112,17 +112,9 @@ module _ (g : TaskGraph) (l m : Assumed) (rows : List Row) (more : AssumesMore l
       and_from (is_loud g l t && not (lazy_cancellation (options g t))) (has (row rows t).ends Canceled)
       (and_from (is_loud g l t) (not (lazy_cancellation (options g t))) (loud_more t b.0) b.1) a.1
 
-  win_more : (y : ℕ) → may_win m rows y ≡ true → may_win l rows y ≡ true
-  win_more y e =
-      elim (or_cases (not m.wide) (may_end rows y) e) [
-        | inl w ↦ or_left (not l.wide) (may_end rows y) (not_so l.wide m.wide more.wide w)
-        | inr w ↦ or_right (not l.wide) (may_end rows y) w
-      ]
-
   past_more : (t : ℕ) (k : TaskKind) (x : ℕ) → PastRule g l rows t k x → PastRule g m rows t k x
   past_more t (Continues a) x (inl p) = inl (unless_so (may_end_early g m rows t) (may_end_early g l rows t) (early_more t) p.0, p.1)
   past_more t (Continues a) x (inr p) = inr p
-  past_more t (WhenAny args) x p = λ y n w. p y n (win_more y w)
   past_more t k x p = p
 
   reads_more : (r y : ℕ) → Reads g l rows r y → Reads g m rows r y
@@ -148,7 +140,7 @@ module _ (g : TaskGraph) (l m : Assumed) (rows : List Row) (more : AssumesMore l
   chain_more t (x ∷ xs) p = links_more t (x ∷ xs) p
 
   left_more : (t : ℕ) (f : Final) → end_left m t f ≡ true → end_left l t f ≡ true
-  left_more t f e = let s = and_parts (m.cut t f) (m.ended t f) e in and_from (l.cut t f) (l.ended t f) (more.cut t f s.0) (more.ended t f s.1)
+  left_more t f e = let s = and_parts (m.left t f) (m.ended t f) e in and_from (l.left t f) (l.ended t f) (more.left t f s.0) (more.ended t f s.1)
 
   closed_more : Closed g l rows → Closed g m rows
   closed_more closed = λ t i. let c = closed t i in record {
@@ -163,8 +155,7 @@ module _ (g : TaskGraph) (l m : Assumed) (rows : List Row) (more : AssumesMore l
   proves_more (Observed t) (inl p) = inl p
   proves_more (Observed t) (inr (inl p)) = inr (inl p)
   proves_more (Observed t) (inr (inr (inl p))) = inr (inr (inl p))
-  proves_more (Observed t) (inr (inr (inr (inl p)))) = inr (inr (inr (inl (λ q. p (may_throw_more (view g l rows t.0) (view g m rows t.0) (body g t.0) (view_more t.0) q)))))
-  proves_more (Observed t) (inr (inr (inr (inr p)))) = inr (inr (inr (inr (more.wide p.0, p.1))))
+  proves_more (Observed t) (inr (inr (inr p))) = inr (inr (inr (λ q. p (may_throw_more (view g l rows t.0) (view g m rows t.0) (body g t.0) (view_more t.0) q))))
   proves_more other p = p
 
 pub more_is_assumed_lem : MoreIsAssumed
@@ -175,23 +166,21 @@ input_more : (l m : Assumed) (i : ℕ) (value : Bool) → AssumesMore l m → As
 input_more l m i value more = record {
   possible = λ j b e. let s = and_parts (m.possible j b) (not (nat_eq i j) || same value b) e in and_from (l.possible j b) (not (nat_eq i j) || same value b) (more.possible j b s.0) s.1;
   quiet = more.quiet;
-  cut = more.cut;
+  left = more.left;
   ended = more.ended;
   sure = more.sure;
-  wide = more.wide;
 }
 
 end_more : (l m : Assumed) (t : ℕ) (f : Final) → AssumesMore l m → AssumesMore (with_end l t f) (with_end m t f)
 end_more l m t f more = record {
   possible = more.possible;
   quiet = more.quiet;
-  cut = λ s e q. let z = and_parts (m.cut s e) (not (nat_eq t s) || is_final f e) q in and_from (l.cut s e) (not (nat_eq t s) || is_final f e) (more.cut s e z.0) z.1;
+  left = λ s e q. let z = and_parts (m.left s e) (not (nat_eq t s) || is_final f e) q in and_from (l.left s e) (not (nat_eq t s) || is_final f e) (more.left s e z.0) z.1;
   ended = more.ended;
   sure = more.sure;
-  wide = more.wide;
 }
 
-tree_more : (g : TaskGraph) (p : Property TaskId) (l m : Assumed) (tree : Tree) → AssumesMore l m → AcceptsTree g p l tree → AcceptsTree g p m tree
+pub tree_more : (g : TaskGraph) (p : Property TaskId) (l m : Assumed) (tree : Tree) → AssumesMore l m → AcceptsTree g p l tree → AcceptsTree g p m tree
 tree_more g p l m (SplitInput i a b) more acc =
     (acc.0, tree_more g p (with_input l i true) (with_input m i true) a (input_more l m i true more) acc.1, tree_more g p (with_input l i false) (with_input m i false) b (input_more l m i false more) acc.2)
 tree_more g p l m (SplitEnd t a b c) more acc = (
@@ -202,24 +191,17 @@ tree_more g p l m (SplitEnd t a b c) more acc = (
 )
 tree_more g p l m (Leaf rows) more acc = (acc.0, acc.1, closed_more g l m rows more acc.2, proves_more g l m rows more p acc.3)
 
--- with own tokens taken as quiet, the wider rules assume more
-own_more : (g : TaskGraph) (given : List Given) (o : Option ℕ) → AssumesMore (assumed false g given) (assumed true g (as_quiet o ++ given))
-own_more g given None = record { possible = λ i value e. e; quiet = λ k e. e; cut = λ t f e. e; ended = λ t f e. e; sure = λ site e. e; wide = λ e. refl }
-own_more g given (Some k) = record { possible = λ i value e. e; quiet = λ j e. or_right _ (given_quiet g given j) e; cut = λ t f e. e; ended = λ t f e. e; sure = λ site e. e; wide = λ e. refl }
+-- with own tokens taken as quiet, the wide rules assume more
+own_more : (g : TaskGraph) (given : List Given) (o : Option ℕ) → AssumesMore (assumed g given) (assumed g (as_quiet o ++ given))
+own_more g given None = record { possible = λ i value e. e; quiet = λ k e. e; left = λ t f e. e; ended = λ t f e. e; sure = λ site e. e }
+own_more g given (Some k) = record { possible = λ i value e. e; quiet = λ j e. or_right _ (given_quiet g given j) e; left = λ t f e. e; ended = λ t f e. e; sure = λ site e. e }
 
-wide_more : (g : TaskGraph) (given : List Given) (p : Property TaskId) → AssumesMore (assumed false g given) (assumed true g (own_quiet g p ++ given))
+pub wide_more : (g : TaskGraph) (given : List Given) (p : Property TaskId) → AssumesMore (assumed g given) (assumed g (own_quiet g p ++ given))
 wide_more g given (After a b) = own_more g given (task g b.0).token
 wide_more g given (Never t) = own_more g given (task g t.0).token
 wide_more g given (Excludes a b) = by_test (same_token (task g a.0).token (task g b.0).token)
   where
-    by_test : (c : Bool) → AssumesMore (assumed false g given) (assumed true g ((if c then as_quiet (task g b.0).token else []) ++ given))
+    by_test : (c : Bool) → AssumesMore (assumed g given) (assumed g ((if c then as_quiet (task g b.0).token else []) ++ given))
     by_test true = own_more g given (task g b.0).token
     by_test false = own_more g given None
 wide_more g given p = own_more g given None
-
-pub wider_accepts_lem : WiderAccepts
-wider_accepts_lem g [] [] acc = tt
-wider_accepts_lem g (claim ∷ claims) (tree ∷ trees) acc =
-    (tree_more g claim.body (assumed_for false g claim) (assumed_for true g claim) tree (wide_more g claim.given claim.body) acc.0, wider_accepts_lem g claims trees acc.1)
-wider_accepts_lem g [] (tree ∷ trees) acc = acc
-wider_accepts_lem g (claim ∷ claims) [] acc = acc

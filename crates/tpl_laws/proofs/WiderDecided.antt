@@ -226,9 +226,8 @@ module _ (g : TaskGraph) (l : WideAssumed) (rows : List WideRow) (t : ℕ) (vali
 
   holds_decided : (k : TaskKind) (f : Fact) (way : Way) → Decides (holds_by g rows t k f way) (HoldsBy g rows t k f way)
   holds_decided k f (ByBody e known) =
-      either (begins_with rows t f ≡ true) (BeforeBegin g rows t k f ⊎ KnownThere known f ⊎ (known.later f ≡ true)) (begins_with rows t f) (before_begin g rows t k f || (known_there known f || known.later f)) (itself (begins_with rows t f))
-      (either (BeforeBegin g rows t k f) (KnownThere known f ⊎ (known.later f ≡ true)) (before_begin g rows t k f) (known_there known f || known.later f) (before_decided k f)
-      (either (KnownThere known f) (known.later f ≡ true) (known_there known f) (known.later f) (there_decided known f) (itself (known.later f))))
+      either (begins_with rows t f ≡ true) (BeforeBegin g rows t k f ⊎ (known.later f ≡ true)) (begins_with rows t f) (before_begin g rows t k f || known.later f) (itself (begins_with rows t f))
+      (either (BeforeBegin g rows t k f) (known.later f ≡ true) (before_begin g rows t k f) (known.later f) (before_decided k f) (itself (known.later f)))
   holds_decided k f RootDropped = own_decided f
   holds_decided k f (ChildDropped p known) =
       either (OwnRequested g t f) (SettledBefore rows p f ⊎ KnownThere known f) (own_requested g t f) (settled_before rows p f || known_there known f) (own_decided f)

@@ -22,7 +22,7 @@ proves g l rows (EndsIn t ends) = each_end (λ f. implies (has (row rows t.0).en
 proves g l rows (After a b) = not (row rows b.0).runs || mem a.0 (row rows b.0).before
 proves g l rows (Observed t) =
     not (is_none (row rows t.0).chain)
-    || (not (has (row rows t.0).ends Faulted) || (not (row rows t.0).runs || (not (may_throw g l rows t.0) || (l.wide && none_complete g rows))))
+    || (not (has (row rows t.0).ends Faulted) || (not (row rows t.0).runs || not (may_throw g l rows t.0)))
 proves g l rows (Never t) = not (row rows t.0).runs
 proves g l rows (Excludes a b) = not (row rows a.0).runs || not (row rows b.0).runs
 proves g l rows (Runs t) =

@@ -69,10 +69,10 @@ ProvesIsRight = (g : TaskGraph) (l : Assumed) (rows : List Row) (p : Property Ta
 -- there is no fault just where the certificate is accepted
 abbrev pub VerdictIsRight : Type 0
 VerdictIsRight =
-    (wide : Bool) (g : TaskGraph) (claims : List Claim) (trees : List Tree) → IsGraph g → (verdict wide g claims trees ≡ Ok tt) ↔ Accepts wide g claims trees
+    (g : TaskGraph) (claims : List Claim) (trees : List Tree) → IsGraph g → (verdict g claims trees ≡ Ok tt) ↔ Accepts g claims trees
 
 -- where the verdict finds no fault, each claim holds in every run
 abbrev pub VerdictIsSound : Type 0
 VerdictIsSound =
-    (wide : Bool) (g : TaskGraph) (claims : List Claim) (trees : List Tree) → IsGraph g → verdict wide g claims trees ≡ Ok tt
+    (g : TaskGraph) (claims : List Claim) (trees : List Tree) → IsGraph g → verdict g claims trees ≡ Ok tt
     → (v : List Bool) (h : List Event) → Run g v h → Each (λ claim. Holds g claim v h) claims

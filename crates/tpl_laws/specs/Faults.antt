@@ -1,4 +1,5 @@
 -- What the first fault of a certificate of rows without tokens says, in terms of the rules.
+use Rattle.tpl_model.specs.declared.rule_set.RuleSet.TheVariants.{Narrow}
 use Rattle.std.specs.Prelude.{◌≡◌, ℕ, ◌<◌, ◌++◌, Bool, true, false, Err, List, [], ◌∷◌, length}
 use Rattle.tpl_model.specs.declared.finals.Final.{Final}
 use Rattle.tpl_model.specs.declared.finals.Final.TheVariants.{RanToCompletion, Canceled, Faulted}
@@ -57,27 +58,27 @@ HasShape g (SplitInput i on_true on_false) = (i < g.inputs) × HasShape g on_tru
 HasShape g (SplitEnd t ran canceled faulted) = is_task g t × HasShape g ran × HasShape g canceled × HasShape g faulted
 HasShape g (Leaf rows) = (length rows ≡ length g.tasks) × IdsOfRows g rows
 
--- certificates of such trees, by the wider rules or the others
-abbrev pub certificates : Bool → TaskGraph → Certificates
-certificates wide g = record {
+-- certificates of such trees
+abbrev pub certificates : TaskGraph → Certificates
+certificates g = record {
   Tree = Tree;
   Branch = Branch;
   HasShape = HasShape g;
-  leaves_for = λ claim tree. leaves_of (assumed_for wide g claim) tree;
+  leaves_for = λ claim tree. leaves_of (assumed_for Narrow g claim) tree;
   rules = leaf_rules g;
-  Accepts = λ claim tree. AcceptsTree g claim.body (assumed_for wide g claim) tree;
+  Accepts = λ claim tree. AcceptsTree g claim.body (assumed_for Narrow g claim) tree;
 }
 
 -- a fault is the first one
-abbrev pub IsFirstFault : Bool → TaskGraph → List Claim → List Tree → CertFault → Type 0
-IsFirstFault wide g claims trees fault = IsFirst g (certificates wide g) claims trees fault
+abbrev pub IsFirstFault : TaskGraph → List Claim → List Tree → CertFault → Type 0
+IsFirstFault g claims trees fault = IsFirst g (certificates g) claims trees fault
 
 -- the fault that the verdict names is the first one
 abbrev pub FaultIsFirst : Type 0
 FaultIsFirst =
-    (wide : Bool) (g : TaskGraph) (claims : List Claim) (trees : List Tree) (fault : CertFault) → IsGraph g → verdict wide g claims trees ≡ Err fault → IsFirstFault wide g claims trees fault
+    (g : TaskGraph) (claims : List Claim) (trees : List Tree) (fault : CertFault) → IsGraph g → verdict g claims trees ≡ Err fault → IsFirstFault g claims trees fault
 
 -- a certificate has one first fault at most
 abbrev pub OneFirstFault : Type 0
 OneFirstFault =
-    (wide : Bool) (g : TaskGraph) (claims : List Claim) (trees : List Tree) (one other : CertFault) → IsFirstFault wide g claims trees one → IsFirstFault wide g claims trees other → one ≡ other
+    (g : TaskGraph) (claims : List Claim) (trees : List Tree) (one other : CertFault) → IsFirstFault g claims trees one → IsFirstFault g claims trees other → one ≡ other

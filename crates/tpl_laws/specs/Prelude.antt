@@ -15,6 +15,6 @@ pub use Rattle.tpl_laws.specs.Verdict.{at_leaf, broken, claims_fault, first_brok
 pub use Rattle.tpl_laws.specs.WideFaults.{OneFirstWideFault, WideFaultIsFirst}
 pub use Rattle.tpl_laws.specs.WideTrees.{AcceptsWideTree, WidelyAccepts, all_written, written}
 pub use Rattle.tpl_laws.specs.WideVerdict.{WideTreeIsRight, WideVerdictIsRight, WideVerdictIsSound, has_tokens, may_have_winner, tokens_fit, wide_claims_fault, wide_fits, wide_leaves, wide_misfit, wide_tree_fault, wide_verdict}
-pub use Rattle.tpl_laws.specs.Wider.{MoreIsAssumed, WiderAccepts}
+pub use Rattle.tpl_laws.specs.Wider.{MoreIsAssumed}
 pub use Rattle.tpl_laws.specs.WiderSoundness.{SomeWideLeafIsTrue, TokensAcceptMore, TokensAreMore, WideRowsAreTrue, WideSoundness}
 pub use Rattle.tpl_laws.specs.WiderTests.{WideBrokenIsRight, WideLeafIsRight, before_begin, each_begin, each_body_end, each_ending, if_known, is_won_by, known_there, own_requested, reads_winner, settled_before, settled_below, wide_broken, wide_chain, wide_ends_by, wide_first_broken, wide_leaf_fault, wide_proves}

@@ -7,7 +7,7 @@ use Rattle.tpl_model.specs.Options.{allows, lazy_cancellation}
 use Rattle.tpl_model.specs.Members.{mem}
 use Rattle.tpl_model.specs.Statements.{starts}
 use Rattle.tpl_model.specs.Graph.{TaskGraph, TaskKind, Root, Child, Continues, WhenAll, WhenAny, task, kind, body, options, attached, some_in}
-use Rattle.tpl_model.specs.Certificate.{Row, row, Assumed, end_left, is_loud, view, may_end_early, may_end, may_win}
+use Rattle.tpl_model.specs.Certificate.{Row, row, Assumed, end_left, is_loud, view, may_end_early, may_end}
 use Rattle.tpl_model.specs.Rules.{to_end}
 use Rattle.tpl_model.specs.Paths.{Known}
 pub use Rattle.tpl_model.specs.Ends.{is_return, is_acknowledgement}
@@ -124,7 +124,7 @@ past_by g l rows t Root x = is_below g t x
 past_by g l rows t Child x = by_parent (parent_of g t) (λ p. mem x (row rows p).before) || is_below g t x
 past_by g l rows t (Continues a) x = (not (may_end_early g l rows t) && (nat_eq x a || mem x (row rows a).past)) || is_below g t x
 past_by g l rows t (WhenAll args) x = some_in (λ y. nat_eq x y || mem x (row rows y).past) args
-past_by g l rows t (WhenAny args) x = all_in (λ y. implies (may_win l rows y) (nat_eq x y || mem x (row rows y).past)) args
+past_by g l rows t (WhenAny args) x = all_in (λ y. nat_eq x y || mem x (row rows y).past) args
 
 -- K4 and K5
 abbrev pub past : TaskGraph → Assumed → List Row → ℕ → Bool

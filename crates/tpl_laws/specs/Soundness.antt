@@ -27,9 +27,9 @@ HasLeaf l (Leaf leaf) m rows = (l ≡ m) × (leaf ≡ rows)
 -- the tree splits hasn't ended
 abbrev pub SomeLeafAgrees : Type 0
 SomeLeafAgrees =
-    (wide : Bool) (g : TaskGraph) (given : List Given) (tree : Tree) (v : List Bool) (h : List Event)
+    (g : TaskGraph) (given : List Given) (tree : Tree) (v : List Bool) (h : List Event)
     → IsGiven g v h given
-    → (l : Assumed) × (rows : List Row) × HasLeaf (assumed wide g given) tree l rows × Agrees g l v h
+    → (l : Assumed) × (rows : List Row) × HasLeaf (assumed g given) tree l rows × Agrees g l v h
 
 -- what the rows of a closed leaf say is true of each run that agrees with it
 pub record RowsHold (g : TaskGraph) (rows : List Row) (v : List Bool) (h : List Event) : Type 0 where
@@ -54,8 +54,8 @@ abbrev pub Each : (Claim → Type 0) → List Claim → Type 0
 Each P [] = Unit {0}
 Each P (claim ∷ claims) = P claim × Each P claims
 
--- where a certificate is accepted, by the wider rules or the others, each claim holds in each run
+-- where a certificate is accepted, each claim holds in each run
 abbrev pub Soundness : Type 0
 Soundness =
-    (wide : Bool) (g : TaskGraph) (claims : List Claim) (certificate : List Tree) → IsGraph g → Accepts wide g claims certificate
+    (g : TaskGraph) (claims : List Claim) (certificate : List Tree) → IsGraph g → Accepts g claims certificate
     → (v : List Bool) (h : List Event) → Run g v h → Each (λ claim. Holds g claim v h) claims

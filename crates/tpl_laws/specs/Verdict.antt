@@ -1,4 +1,5 @@
 -- The first place at which a certificate fails.
+use Rattle.tpl_model.specs.declared.rule_set.RuleSet.TheVariants.{Narrow}
 use Rattle.std.specs.Prelude.{ℕ, zero, suc, ◌+◌, ◌&&◌, Bool, true, false, Option, Some, None, Result, Ok, Err, List, [], ◌∷◌, length, nat_eq, nat_lt}
 use Rattle.tpl_model.specs.declared.finals.Final.TheVariants.{RanToCompletion, Canceled, Faulted}
 use Rattle.tpl_model.specs.Graph.{TaskGraph, TaskKind, WhenAll, WhenAny, kind}
@@ -77,10 +78,10 @@ tree_fault g p claim l leaf (SplitEnd t ran canceled faulted) =
 tree_fault g p claim l leaf (Leaf rows) = at_leaf claim leaf (leaf_fault g p l rows)
 
 -- the first claim whose tree fails; the first claim of the list has this number
-abbrev pub claims_fault : Bool → TaskGraph → ℕ → List Claim → List Tree → Option CertFault
-claims_fault wide g n (claim ∷ claims) (tree ∷ trees) =
-    or_else (tree_fault g claim.body n (assumed_for wide g claim) 1 tree) (claims_fault wide g (suc n) claims trees)
-claims_fault wide g n claims trees = None
+abbrev pub claims_fault : TaskGraph → ℕ → List Claim → List Tree → Option CertFault
+claims_fault g n (claim ∷ claims) (tree ∷ trees) =
+    or_else (tree_fault g claim.body n (assumed_for Narrow g claim) 1 tree) (claims_fault g (suc n) claims trees)
+claims_fault g n claims trees = None
 
 -- the ids in a row are the graph's
 abbrev pub has_tasks : TaskGraph → List ℕ → Bool
@@ -108,7 +109,7 @@ abbrev pub no_fault : Option CertFault → Result (Unit {0}) CertFault
 no_fault None = Ok tt
 no_fault (Some fault) = Err fault
 
--- what is said of a certificate, by the wider rules or the others: its first fault, if it has one. Shapes come first;
+-- what is said of a certificate: its first fault, if it has one. Shapes come first;
 -- then claim by claim and leaf by leaf, the first row that breaks a rule, before the claim
-abbrev pub verdict : Bool → TaskGraph → List Claim → List Tree → Result (Unit {0}) CertFault
-verdict wide g claims trees = no_fault (or_else (misfit g 1 claims trees) (claims_fault wide g 1 claims trees))
+abbrev pub verdict : TaskGraph → List Claim → List Tree → Result (Unit {0}) CertFault
+verdict g claims trees = no_fault (or_else (misfit g 1 claims trees) (claims_fault g 1 claims trees))

@@ -11,17 +11,12 @@ use Rattle.tpl_model.specs.Certificate.{Row, Tree, Assumed, Closed, Proves, Acce
 pub record AssumesMore (l m : Assumed) : Type 0 where
   pub possible : (i : ℕ) (value : Bool) → m.possible i value ≡ true → l.possible i value ≡ true
   pub quiet : (k : ℕ) → l.quiet k ≡ true → m.quiet k ≡ true
-  pub cut : (t : ℕ) (f : Final) → m.cut t f ≡ true → l.cut t f ≡ true
+  pub left : (t : ℕ) (f : Final) → m.left t f ≡ true → l.left t f ≡ true
   pub ended : (t : ℕ) (f : Final) → m.ended t f ≡ true → l.ended t f ≡ true
   pub sure : (site : ℕ) → l.sure site ≡ true → m.sure site ≡ true
-  pub wide : l.wide ≡ true → m.wide ≡ true
 
 -- rows that are closed stay so where more is assumed, and prove what they did
 abbrev pub MoreIsAssumed : Type 0
 MoreIsAssumed =
     (g : TaskGraph) (l m : Assumed) (rows : List Row) → AssumesMore l m → Closed g l rows
     → Closed g m rows × ((p : Property TaskId) → Proves g l rows p → Proves g m rows p)
-
--- the wider rules accept what the others do
-abbrev pub WiderAccepts : Type 0
-WiderAccepts = (g : TaskGraph) (claims : List Claim) (trees : List Tree) → Accepts false g claims trees → Accepts true g claims trees

@@ -1,4 +1,5 @@
 -- What rows that speak of tokens promise.
+use Rattle.tpl_model.specs.declared.rule_set.RuleSet.TheVariants.{Wide}
 use Rattle.std.specs.Prelude.{◌≡◌, ◌⊎◌, ℕ, Bool, true, Some, List, [], ◌∷◌, is_some, map}
 use Rattle.tpl_model.specs.declared.finals.Final.{Final}
 use Rattle.tpl_model.specs.Finals.{has}
@@ -53,10 +54,10 @@ TokensAreMore =
     (g : TaskGraph) (l : WideAssumed) (rows : List Row) → Closed g l.assumed rows
     → WidelyClosed g l (as_wide rows) × ((p : Property TaskId) → Proves g l.assumed rows p → WidelyProves g l (as_wide rows) p)
 
--- a certificate that is accepted without tokens is accepted with them
+-- a certificate that is accepted by the narrow rules is accepted by the wide ones
 abbrev pub TokensAcceptMore : Type 0
 TokensAcceptMore =
-    (g : TaskGraph) (claims : List Claim) (trees : List Tree) → Accepts true g claims trees → WidelyAccepts g claims (map as_wide_tree trees)
+    (g : TaskGraph) (claims : List Claim) (trees : List Tree) → Accepts g claims trees → WidelyAccepts g claims (map as_wide_tree trees)
 
 -- the rows are those of a leaf of the tree; a leaf without rows may have any
 abbrev pub HasRows : WideTree → List WideRow → Type 0
@@ -70,5 +71,5 @@ HasRows LeastLeaf rows = Unit {0}
 -- given for the claim is true
 abbrev pub SomeWideLeafIsTrue : Type 0
 SomeWideLeafIsTrue =
-    (g : TaskGraph) (claim : Claim) (tree : WideTree) (v : List Bool) (h : List Event) → IsGraph g → AcceptsWideTree g claim.body (widely_assumed g claim) tree → Run g v h → IsGiven g v h (taken true g claim)
+    (g : TaskGraph) (claim : Claim) (tree : WideTree) (v : List Bool) (h : List Event) → IsGraph g → AcceptsWideTree g claim.body (widely_assumed g claim) tree → Run g v h → IsGiven g v h (taken Wide g claim)
     → (rows : List WideRow) × HasRows (written g claim.body (widely_assumed g claim) tree) rows × WideRowsHold g rows v h

@@ -100,7 +100,7 @@ before_begin g rows t kind fact = false
 -- a fact that holds where t ended in this way
 abbrev pub holds_by : TaskGraph → List WideRow → ℕ → TaskKind → Fact → Way → Bool
 holds_by g rows t kind fact (ByBody f known) =
-    begins_with rows t fact || (before_begin g rows t kind fact || (known_there known fact || known.later fact))
+    begins_with rows t fact || (before_begin g rows t kind fact || known.later fact)
 holds_by g rows t kind fact RootDropped = own_requested g t fact
 holds_by g rows t kind fact (ChildDropped p known) = own_requested g t fact || (settled_before rows p fact || known_there known fact)
 holds_by g rows t kind fact DroppedEarly = own_requested g t fact

@@ -1,6 +1,6 @@
 //! What an accepted certificate promises.
 
-ghost use Rattle.tpl_laws.specs.Prelude.{MoreIsAssumed, PlainIsAccepted, PlainIsRefused, RowsAreTrue, SomeLeafAgrees, SomeWideLeafIsTrue, SoundByRules, Soundness, TokensAcceptMore, TokensAreMore, WideRowsAreTrue, WideSoundness, WiderAccepts};
+ghost use Rattle.tpl_laws.specs.Prelude.{MoreIsAssumed, PlainIsAccepted, PlainIsRefused, RowsAreTrue, SomeLeafAgrees, SomeWideLeafIsTrue, SoundByRules, Soundness, TokensAcceptMore, TokensAreMore, WideRowsAreTrue, WideSoundness};
 
 /// What the rows of a closed leaf say is true of each run that agrees with the leaf.
 pub fn rows_are_true()
@@ -20,11 +20,6 @@ pub fn soundness()
 /// Rows that are closed stay so where more is assumed, and prove what they did.
 pub fn more_is_assumed()
     ensures { MoreIsAssumed }
-{}
-
-/// The wider rules accept what the others do.
-pub fn wider_accepts()
-    ensures { WiderAccepts }
 {}
 
 /// What rows with tokens say is true of each run that agrees with their leaf, where the wider rules close it.

@@ -7,7 +7,7 @@ use Rattle.tpl_model.specs.Finals.{has}
 use Rattle.tpl_model.specs.Statements.{Statement, Return, Throw, Check, Cancel, Start, Observe, Work, If, When, Statements, Nothing, ◌⨾◌, followed_by}
 use Rattle.tpl_model.specs.Paths.{Known}
 use Rattle.tpl_model.specs.Recursion.{another}
-use Rattle.tpl_model.specs.Knowledge.{Fact, Knowledge, Reached, ChildEnd, Reading, meet, when, with_tokens, with_facts, past_check, both, join, all, ends_well, behind_start, through, behind, collected, collected_in}
+use Rattle.tpl_model.specs.Knowledge.{Fact, Knowledge, Reached, ChildEnd, Reading, meet, when, as_facts, with_tokens, with_facts, past_check, both, join, all, ends_well, behind_start, through, behind, collected, collected_in}
 
 -- the second paths are among the first ones: they have all that those have in common
 abbrev pub Under : Option Knowledge → Option Knowledge → Type 0
@@ -61,8 +61,10 @@ when_true false s e = true_false (sym e)
 pub tokens_under : (tokens : ℕ → Bool) (s t : Option Knowledge) → Under s t → Under (with_tokens tokens s) (with_tokens tokens t)
 tokens_under tokens s None p = tt
 tokens_under tokens None (Some b) p = absurd p
-tokens_under tokens (Some a) (Some b) p =
-    ((λ k e. elim (or_cases (tokens k) (a.requested k) e) [ inl q ↦ or_left (tokens k) (b.requested k) q | inr q ↦ or_right (tokens k) (b.requested k) (p.0 k q) ]), p.1)
+tokens_under tokens (Some a) (Some b) p = (
+  (λ k e. elim (or_cases (tokens k) (a.requested k) e) [ inl q ↦ or_left (tokens k) (b.requested k) q | inr q ↦ or_right (tokens k) (b.requested k) (p.0 k q) ]),
+  (λ f e. elim (or_cases (as_facts tokens f) (a.later f) e) [ inl q ↦ or_left (as_facts tokens f) (b.later f) q | inr q ↦ or_right (as_facts tokens f) (b.later f) (p.1 f q) ]),
+)
 
 facts_under : (facts : Fact → Bool) (s t : Option Knowledge) → Under s t → Under (with_facts facts s) (with_facts facts t)
 facts_under facts s None p = tt

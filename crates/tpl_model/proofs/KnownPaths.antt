@@ -1,5 +1,5 @@
 -- What the recursion over a body finds at a place is known on each path to it.
-use Rattle.std.proofs.Common.{◌≡◌, ℕ, inl, inr, ◌&&◌, ◌||◌, not, Bool, true, false, Option, Some, None, List, [], ◌∷◌, refl, sym, subst, nat_eq, eqb→eq, T}
+use Rattle.std.proofs.Common.{◌≡◌, ℕ, inl, inr, ◌⊎◌, ◌&&◌, ◌||◌, not, Bool, true, false, Option, Some, None, List, [], ◌∷◌, refl, sym, subst, nat_eq, eqb→eq, T}
 use Rattle.std.proofs.lemmas.Bool.{or_cases, or_left, or_right, and_from, not_from_false}
 use Rattle.tpl_model.proofs.Truths.{true_false}
 use Rattle.tpl_model.proofs.MemberLemmas.{same_self}
@@ -12,7 +12,7 @@ use Rattle.tpl_model.specs.Statements.{Statement, Return, Throw, Check, Cancel, 
 use Rattle.tpl_model.specs.declared.status.Label.TheVariants.{Thrown, WorkFailed}
 use Rattle.tpl_model.specs.Paths.{cancellation, outcome_of, Known, GoesOn, EndsAt, Passes, EndsPassing, is_start_of, passes_start}
 use Rattle.tpl_model.specs.Recursion.{another}
-use Rattle.tpl_model.specs.Knowledge.{Fact, Knowledge, Reached, ChildEnd, Reading, meet, when, with_tokens, with_facts, past_check, both, join, all, ends_well, behind_start, through, behind, collected, collected_in, ending_at, ended_by, ending_as, throwing, starting, from, unchosen, at_start}
+use Rattle.tpl_model.specs.Knowledge.{Fact, IsSettled, IsRequested, Knowledge, Reached, ChildEnd, Reading, meet, when, as_facts, with_tokens, with_facts, past_check, both, join, all, ends_well, behind_start, through, behind, collected, collected_in, ending_at, ended_by, ending_as, throwing, starting, from, unchosen, at_start}
 use Rattle.tpl_model.proofs.Through.{is_another}
 use Rattle.tpl_model.proofs.Known.{Under, UnderAll, under_self, under_trans, meet_left, meet_right, when_true, when_under, all_self, all_under, tokens_under, Falls, Covers, covers_next, covers_list, covers_trans}
 
@@ -33,11 +33,12 @@ abbrev pub facts_of : Option ChildEnd → Fact → Bool
 facts_of None f = false
 facts_of (Some c) f = c.facts f
 
--- the facts of the children that a path starts
-abbrev pub later_on : (ℕ → Option ChildEnd) → List Statement → Fact → Bool
-later_on child [] f = false
-later_on child (Start c ∷ passed) f = facts_of (child c) f || later_on child passed f
-later_on child (s ∷ passed) f = later_on child passed f
+-- the facts that a path knows of the time when the children have ended that it starts: theirs, and the tokens that it knows
+abbrev pub later_on : (ℕ → ℕ → Bool) → (ℕ → Bool) → (ℕ → Option ChildEnd) → List Statement → Fact → Bool
+later_on linked tokens child [] f = as_facts tokens f
+later_on linked tokens child (Start c ∷ passed) f = facts_of (child c) f || later_on linked tokens child passed f
+later_on linked tokens child (Cancel j ∷ passed) f = as_facts (linked j) f || later_on linked tokens child passed f
+later_on linked tokens child (s ∷ passed) f = later_on linked tokens child passed f
 
 -- a child whose end is chosen ends Faulted
 abbrev pub burdens : Option ChildEnd → Final → Bool
@@ -66,7 +67,7 @@ one true a = record { unburdened = None; burdened = Some a }
 one false a = record { unburdened = Some a; burdened = None }
 
 abbrev pub known_on : Reading → (ℕ → Bool) → List Statement → Knowledge
-known_on w tokens passed = record { requested = requested_on w.linked tokens passed; later = later_on w.child passed }
+known_on w tokens passed = record { requested = requested_on w.linked tokens passed; later = later_on w.linked tokens w.child passed }
 
 abbrev pub on_path : Reading → (ℕ → Bool) → (ℕ → Final) → List Statement → Reached
 on_path w tokens chosen passed = one (is_burdened w.child chosen passed) (known_on w tokens passed)
@@ -79,7 +80,7 @@ check_on : (w : Known) (k : ℕ) (b : Bool) (a : Knowledge) → w.quiet k || not
 check_on w k true a e = (tt, when_true (w.quiet k || not (a.requested k)) (Some a) e)
 check_on w k false a e = (when_true (w.quiet k || not (a.requested k)) (Some a) e, tt)
 
-cancel_on : (test : Bool) (tokens : ℕ → Bool) (b : Bool) (a : Knowledge) → test ≡ true → UnderAll (both (λ s. when test (with_tokens tokens s)) (one b a)) (one b (record { requested = λ k. tokens k || a.requested k; later = a.later }))
+cancel_on : (test : Bool) (tokens : ℕ → Bool) (b : Bool) (a : Knowledge) → test ≡ true → UnderAll (both (λ s. when test (with_tokens tokens s)) (one b a)) (one b (record { requested = λ k. tokens k || a.requested k; later = λ f. as_facts tokens f || a.later f }))
 cancel_on test tokens true a e = (tt, when_true test (with_tokens tokens (Some a)) e)
 cancel_on test tokens false a e = (when_true test (with_tokens tokens (Some a)) e, tt)
 
@@ -335,6 +336,13 @@ told_by linked tokens (Some o) [] k = tokens k
 told_by linked tokens (Some o) (Check j ∷ ps) k = linked j k || requested_on linked tokens ps k
 told_by linked tokens (Some o) (s ∷ ps) k = requested_on linked tokens (s ∷ ps) k
 
+-- the facts that a body knows of the time when its children have ended, with those of a check at which it has ended
+abbrev pub later_by : (ℕ → ℕ → Bool) → (ℕ → Bool) → (ℕ → Option ChildEnd) → Option Outcome → List Statement → Fact → Bool
+later_by linked tokens child None ps f = later_on linked tokens child ps f
+later_by linked tokens child (Some o) [] f = as_facts tokens f
+later_by linked tokens child (Some o) (Check j ∷ ps) f = as_facts (linked j) f || later_on linked tokens child ps f
+later_by linked tokens child (Some o) (s ∷ ps) f = later_on linked tokens child (s ∷ ps) f
+
 -- of a body that a statement has ended, that one isn't passed
 abbrev pub HeedsBy : (ℕ → Bool) → (ℕ → ℕ → Bool) → (ℕ → Bool) → Option Outcome → List Statement → Type 0
 HeedsBy quiet linked tokens None ps = Heeds quiet linked tokens ps
@@ -361,13 +369,13 @@ ending_one false (Threw l) a = under_self (Some a)
 ending_one false Returned a = under_self (Some a)
 ending_one false Acknowledged a = under_self (Some a)
 
-told_one : (tokens : ℕ → Bool) (b : Bool) (a : Knowledge) → UnderAll (both (with_tokens tokens) (one b a)) (one b (record { requested = λ k. tokens k || a.requested k; later = a.later }))
+told_one : (tokens : ℕ → Bool) (b : Bool) (a : Knowledge) → UnderAll (both (with_tokens tokens) (one b a)) (one b (record { requested = λ k. tokens k || a.requested k; later = λ f. as_facts tokens f || a.later f }))
 told_one tokens true a = (tt, under_self (with_tokens tokens (Some a)))
 told_one tokens false a = (under_self (with_tokens tokens (Some a)), tt)
 
 module _ (pick : Outcome → Reached → Option Knowledge) (w : Reading) (falls : FallsBy pick) (tokens : ℕ → Bool) (chosen : ℕ → Final) (body : Statements) where
   abbrev pub EndKnown : Option Outcome → List Statement → Outcome → Type 0
-  EndKnown o ps end = Under (ended_by pick w body (from tokens)) (pick end (one (is_burdened w.child chosen ps) (record { requested = told_by w.linked tokens o ps; later = later_on w.child ps })))
+  EndKnown o ps end = Under (ended_by pick w body (from tokens)) (pick end (one (is_burdened w.child chosen ps) (record { requested = told_by w.linked tokens o ps; later = later_by w.linked tokens w.child o ps })))
 
   -- what is found of the paths with this end is known on each of them
   pub end_known : (o : Option Outcome) (left : Statements) (ps : List Statement) (end : Outcome) → outcome_of o left ≡ Some end → FollowsBy w.known body o left ps → Chooses w.child chosen ps → HeedsBy w.known.quiet w.linked tokens o ps → EndKnown o ps end
@@ -385,7 +393,7 @@ module _ (pick : Outcome → Reached → Option Knowledge) (w : Reading) (falls 
       at (Throw l) f c h = stops_at pick w falls tokens chosen body (Throw l) ps v f c h
       at (Check k) f c h =
           let told = told_at w (Check k) (on_path w tokens chosen ps) in
-          let known : Knowledge = record { requested = told_by w.linked tokens (Some v) (Check k ∷ ps); later = later_on w.child (Check k ∷ ps) } in
+          let known : Knowledge = record { requested = told_by w.linked tokens (Some v) (Check k ∷ ps); later = later_by w.linked tokens w.child (Some v) (Check k ∷ ps) } in
           let path = one (is_burdened w.child chosen ps) known in
           under_trans (ended_by pick w body (from tokens)) (pick v told) (pick v path) (stops_at pick w falls tokens chosen body (Check k) ps v f c h)
           (falls v told path (told_one (w.linked k) (is_burdened w.child chosen ps) (known_on w tokens ps)))
@@ -460,18 +468,53 @@ start_burdens child chosen (s ∷ ps) c e f = at s (λ q. start_burdens child ch
         ]
     at s old e = old e
 
--- the facts of the children that a path starts
-pub later_started : (child : ℕ → Option ChildEnd) (ps : List Statement) (fact : Fact) → later_on child ps fact ≡ true → StartOf (λ c. facts_of (child c) fact) ps
-later_started child [] fact e = true_false (sym e)
-later_started child (s ∷ ps) fact e = at s (λ q. later s (later_started child ps fact q)) e
-  where
-    later : (s : Statement) → StartOf (λ c. facts_of (child c) fact) ps → StartOf (λ c. facts_of (child c) fact) (s ∷ ps)
-    later s q = (q.0, or_right (is_start_of q.0 s) (passes_start q.0 ps) q.1, q.2)
+facts_left : (x y : ℕ → Bool) (fact : Fact) → as_facts x fact ≡ true → as_facts (λ k. x k || y k) fact ≡ true
+facts_left x y (IsSettled t) e = e
+facts_left x y (IsRequested k) e = or_left (x k) (y k) e
 
-    at : (s : Statement) → (later_on child ps fact ≡ true → StartOf (λ c. facts_of (child c) fact) (s ∷ ps)) → later_on child (s ∷ ps) fact ≡ true → StartOf (λ c. facts_of (child c) fact) (s ∷ ps)
-    at (Start d) old e =
-        elim (or_cases (facts_of (child d) fact) (later_on child ps fact) e) [
-          | inl q ↦ (d, or_left (nat_eq d d) (passes_start d ps) (same_self d), q)
-          | inr q ↦ old q
-        ]
-    at s old e = old e
+facts_right : (x y : ℕ → Bool) (fact : Fact) → as_facts y fact ≡ true → as_facts (λ k. x k || y k) fact ≡ true
+facts_right x y (IsSettled t) e = e
+facts_right x y (IsRequested k) e = or_right (x k) (y k) e
+
+module _ (linked : ℕ → ℕ → Bool) (tokens : ℕ → Bool) (child : ℕ → Option ChildEnd) (fact : Fact) where
+  -- what a path knows of the time when its children have ended: the fact is one of a child, or of a token that it knows
+  abbrev pub OfChildOrToken : List Statement → (ℕ → Bool) → Type 0
+  OfChildOrToken ps known = StartOf (λ c. facts_of (child c) fact) ps ⊎ (as_facts known fact ≡ true)
+
+  started_before : (s : Statement) (ps : List Statement) → StartOf (λ c. facts_of (child c) fact) ps → StartOf (λ c. facts_of (child c) fact) (s ∷ ps)
+  started_before s ps q = (q.0, or_right (is_start_of q.0 s) (passes_start q.0 ps) q.1, q.2)
+
+  one_later : (s : Statement) (ps : List Statement) → OfChildOrToken ps (requested_on linked tokens ps) → OfChildOrToken (s ∷ ps) (requested_on linked tokens (s ∷ ps))
+  one_later s ps (inl q) = inl (started_before s ps q)
+  one_later (Cancel j) ps (inr q) = inr (facts_right (linked j) (requested_on linked tokens ps) fact q)
+  one_later s ps (inr q) = inr q
+
+  later_known : (ps : List Statement) → later_on linked tokens child ps fact ≡ true → OfChildOrToken ps (requested_on linked tokens ps)
+  later_known [] e = inr e
+  later_known (s ∷ ps) e = at s (λ q. later_known ps q) e
+    where
+      at : (s : Statement) → (later_on linked tokens child ps fact ≡ true → OfChildOrToken ps (requested_on linked tokens ps)) → later_on linked tokens child (s ∷ ps) fact ≡ true → OfChildOrToken (s ∷ ps) (requested_on linked tokens (s ∷ ps))
+      at (Start d) old e =
+          elim (or_cases (facts_of (child d) fact) (later_on linked tokens child ps fact) e) [
+            | inl q ↦ inl (d, or_left (nat_eq d d) (passes_start d ps) (same_self d), q)
+            | inr q ↦ one_later (Start d) ps (old q)
+          ]
+      at (Cancel j) old e =
+          elim (or_cases (as_facts (linked j) fact) (later_on linked tokens child ps fact) e) [
+            | inl q ↦ inr (facts_left (linked j) (requested_on linked tokens ps) fact q)
+            | inr q ↦ one_later (Cancel j) ps (old q)
+          ]
+      at s old e = one_later s ps (old e)
+
+  pub later_told : (o : Option Outcome) (ps : List Statement) → later_by linked tokens child o ps fact ≡ true → OfChildOrToken ps (told_by linked tokens o ps)
+  later_told None ps e = later_known ps e
+  later_told (Some o) [] e = inr e
+  later_told (Some o) (s ∷ ps) e = at s e
+    where
+      at : (s : Statement) → later_by linked tokens child (Some o) (s ∷ ps) fact ≡ true → OfChildOrToken (s ∷ ps) (told_by linked tokens (Some o) (s ∷ ps))
+      at (Check j) e =
+          elim (or_cases (as_facts (linked j) fact) (later_on linked tokens child ps fact) e) [
+            | inl q ↦ inr (facts_left (linked j) (requested_on linked tokens ps) fact q)
+            | inr q ↦ elim (later_known ps q) [ inl s ↦ inl (started_before (Check j) ps s) | inr k ↦ inr (facts_right (linked j) (requested_on linked tokens ps) fact k) ]
+          ]
+      at s e = later_known (s ∷ ps) e

@@ -17,7 +17,7 @@ pub data Fact : Type 0 where
   IsRequested : (token : ℕ) → Fact
 
 -- what all paths to a place have: tokens that are requested there, and facts that hold once the children have ended
--- that the paths started
+-- that the paths started, these tokens among them
 pub record Knowledge : Type 0 where
   pub requested : ℕ → Bool
   pub later : Fact → Bool
@@ -50,10 +50,15 @@ abbrev pub when : Bool → Option Knowledge → Option Knowledge
 when true s = s
 when false s = None
 
+-- each of these tokens is requested, as facts
+abbrev pub as_facts : (ℕ → Bool) → Fact → Bool
+as_facts tokens (IsSettled x) = false
+as_facts tokens (IsRequested k) = tokens k
+
 -- the paths, which know these tokens too
 abbrev pub with_tokens : (ℕ → Bool) → Option Knowledge → Option Knowledge
 with_tokens tokens None = None
-with_tokens tokens (Some a) = Some (record { requested = λ k. tokens k || a.requested k; later = a.later })
+with_tokens tokens (Some a) = Some (record { requested = λ k. tokens k || a.requested k; later = λ f. as_facts tokens f || a.later f })
 
 -- the paths, which have these facts of a child too
 abbrev pub with_facts : (Fact → Bool) → Option Knowledge → Option Knowledge
@@ -162,7 +167,7 @@ starting c s r = None
 
 -- the one path before the first statement, which knows these tokens
 abbrev pub from : (ℕ → Bool) → Reached
-from tokens = record { unburdened = Some (record { requested = tokens; later = λ f. false }); burdened = None }
+from tokens = record { unburdened = Some (record { requested = tokens; later = as_facts tokens }); burdened = None }
 
 -- the body is read without a choice of how its children end
 abbrev pub unchosen : Reading → Reading

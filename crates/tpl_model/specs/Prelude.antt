@@ -1,5 +1,5 @@
 -- The definitions that sources cite, passed on from one place. Declares nothing.
-pub use Rattle.tpl_model.specs.Certificate.{Accepts, AcceptsTree, Assumed, Leaf, as_quiet, assumed, assumed_for, begins_itself, end_left, given_quiet, is_loud, is_wide, may_end, may_end_early, may_win, one_ends, own_quiet, row, same, subject_set, view, with_end, with_input}
+pub use Rattle.tpl_model.specs.Certificate.{Accepts, AcceptsTree, Assumed, Leaf, as_quiet, assumed, assumed_for, begins_itself, end_left, given_quiet, is_loud, may_end, may_end_early, one_ends, own_quiet, row, same, subject_set, view, with_end, with_input}
 pub use Rattle.tpl_model.specs.Claims.{AreAll, HasNoGap, Holds, HoldsOf, IsGiven, SettledAtBegin, bodied_tasks, named_tasks, names, property_map, somes, try_map}
 pub use Rattle.tpl_model.specs.Cursor.{BeginsWith, behind, behind_choice, chosen, left_at}
 pub use Rattle.tpl_model.specs.Ends.{checked, either_end, ends_at, ends_in, only_if, then_ends}
@@ -7,7 +7,7 @@ pub use Rattle.tpl_model.specs.Facts.{Ending, all_final, all_over, begun, begun_
 pub use Rattle.tpl_model.specs.Finals.{IsPart, final_name, has, is_final}
 pub use Rattle.tpl_model.specs.Graph.{Child, Continues, IsParent, Linked, Root, TaskGraph, WhenAny, attached, body, is_task, is_token, kind, options, some_in, sources, task}
 pub use Rattle.tpl_model.specs.Journal.{IsSeat, own, same_actor}
-pub use Rattle.tpl_model.specs.Knowledge.{Fact, IsRequested, at_end, at_start, at_throw, behind_start, both, ends_well, from, join, meet, nowhere, past_check, when, with_facts, with_tokens}
+pub use Rattle.tpl_model.specs.Knowledge.{Fact, IsRequested, as_facts, at_end, at_start, at_throw, behind_start, both, ends_well, from, join, meet, nowhere, past_check, when, with_facts, with_tokens}
 pub use Rattle.tpl_model.specs.Limits.{IsWithinLimits, count_one, level_count, levels_in, statement_count}
 pub use Rattle.tpl_model.specs.Members.{joined, mem}
 pub use Rattle.tpl_model.specs.Options.{allows, attached_to_parent, continuation_words, deny_child_attach, execute_synchronously, has_bits, lazy_cancellation, run_continuations_asynchronously, task_words, validity, words}

@@ -15,6 +15,7 @@ use Rattle.tpl_model.specs.declared.ids.TaskId.{TaskId}
 use Rattle.tpl_model.specs.declared.claim.Property.{Property}
 use Rattle.tpl_model.specs.declared.claim.Property.TheVariants.{Observed}
 use Rattle.tpl_model.specs.Claims.{Claim}
+use Rattle.tpl_model.specs.declared.rule_set.RuleSet.TheVariants.{Wide}
 use Rattle.tpl_model.specs.Certificate.{Row, row, Tree, SplitInput, SplitEnd, Leaf, Assumed, Agrees, same, assumed_for, with_input, with_end, end_left, is_loud, subject_ends, view, IsBelow, AllMayEnd, may_end, TakesOver, Reads, NoneComplete, Proves}
 
 -- a row that says of tokens too which ones are requested when the task begins, and when it has ended
@@ -172,7 +173,7 @@ BeforeBegin g rows t kind fact = ⊥
 -- a fact that holds where t ended in this way
 abbrev pub HoldsBy : TaskGraph → List WideRow → ℕ → TaskKind → Fact → Way → Type 0
 HoldsBy g rows t kind fact (ByBody f known) =
-    (begins_with rows t fact ≡ true) ⊎ BeforeBegin g rows t kind fact ⊎ KnownThere known fact ⊎ (known.later fact ≡ true)
+    (begins_with rows t fact ≡ true) ⊎ BeforeBegin g rows t kind fact ⊎ (known.later fact ≡ true)
 HoldsBy g rows t kind fact RootDropped = OwnRequested g t fact
 HoldsBy g rows t kind fact (ChildDropped p known) = OwnRequested g t fact ⊎ SettledBefore rows p fact ⊎ KnownThere known fact
 HoldsBy g rows t kind fact DroppedEarly = OwnRequested g t fact
@@ -276,7 +277,7 @@ narrowed_from g (suc t) left = narrowed_from g t (narrowed_by g t (kind g t) lef
 -- what a leaf assumes where the ends that its splits left are narrowed by all tasks. Ends that are given aren't: a task
 -- may be bound to end otherwise, while what is given of it is still true
 abbrev pub narrowed : TaskGraph → WideAssumed → WideAssumed
-narrowed g l = record l { assumed = record l.assumed { cut = narrowed_from g (length g.tasks) l.assumed.cut } }
+narrowed g l = record l { assumed = record l.assumed { left = narrowed_from g (length g.tasks) l.assumed.left } }
 
 -- each number is that of a token
 abbrev pub AllTokens : TaskGraph → List ℕ → Type 0
@@ -314,7 +315,7 @@ MayHaveWinner kind x = ⊥
 
 -- what a certificate of such rows assumes for a claim, before its splits: each argument may win
 abbrev pub widely_assumed : TaskGraph → Claim → WideAssumed
-widely_assumed g claim = record { assumed = assumed_for true g claim; wins = λ n x. true }
+widely_assumed g claim = record { assumed = assumed_for Wide g claim; wins = λ n x. true }
 
 -- rows that say nothing of tokens
 abbrev pub as_wide : List Row → List WideRow

@@ -1,4 +1,9 @@
 //! The parts of a document, each read from its JSON value, with names as texts of the value.
+//!
+//! ## Choices
+//!
+//! - **`null` is no value of an optional member**, and of two members of one name the last one counts, as
+//!   `serde_json` reads it. Versions are read by `as_u64`.
 #![tactic(auto)]
 
 mod claims;

@@ -56,8 +56,3 @@ with_facts_meet h (Some x) (Some y) = ap Some (same_knowledge _ _ (λ k. refl) (
 -- others that were met before
 pub meet_again : (a b : Option Knowledge) → meet b (meet a b) ≡ meet b a
 meet_again a b = ap (meet b) (meet_turned a b) ∙ (sym (meet_assoc b b a) ∙ ap (λ s. meet s a) (meet_twice b))
-
--- what is had by these too, who have their tokens in another way
-pub common_with : (a : Knowledge) (t u : ℕ → Bool) (l : Fact → Bool) → t ≡ u
-    → let one : Knowledge = record { requested = λ k. a.requested k && t k; later = λ f. a.later f && l f } in let other : Knowledge = record { requested = λ k. a.requested k && u k; later = λ f. a.later f && l f } in one ≡ other
-common_with a t u l e = ap (λ (s : ℕ → Bool). let k : Knowledge = record { requested = λ k. a.requested k && s k; later = λ f. a.later f && l f } in k) e

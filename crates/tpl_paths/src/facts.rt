@@ -1,8 +1,8 @@
 //! Facts that stay true once they are.
 
 ghost use Rattle.std.specs.Prelude.{◌≡◌, ◌↔◌, ◌&&◌, ◌||◌, true, false, IsTrue};
-ghost use Rattle.tpl_model.specs.Prelude.{Fact};
-ghost use Rattle.tpl_paths.specs.Prelude.{has_fact};
+ghost use Rattle.tpl_model.specs.Prelude.{Fact, as_facts};
+ghost use Rattle.tpl_paths.specs.Prelude.{has_fact, has_token};
 
 use crate::token_set::TokenSet;
 use tpl_model::TaskSet;
@@ -25,6 +25,16 @@ impl Facts {
         }
     }
 
+    /// Each of these tokens is requested.
+    pub(crate) fn of(tokens: TokenSet) -> Facts
+        ensures { (f : Fact) → has_fact result f ≡ as_facts (has_token tokens) f }
+    {
+        Facts {
+            tasks: TaskSet::empty(),
+            tokens,
+        }
+    }
+
     /// A copy.
     pub fn copy(&self) -> Facts
         ensures { result ≡ self.now }
@@ -32,6 +42,17 @@ impl Facts {
         Facts {
             tasks: self.tasks.copy(),
             tokens: self.tokens,
+        }
+    }
+
+    /// A copy, with these tokens too.
+    pub(crate) fn knowing(&self, tokens: TokenSet) -> Facts
+        ensures { (f : Fact) → has_fact result f ≡ (as_facts (has_token tokens) f
+            || has_fact self.now f) }
+    {
+        Facts {
+            tasks: self.tasks.copy(),
+            tokens: tokens.union(self.tokens),
         }
     }
 

@@ -1,13 +1,14 @@
 //! What all paths to a place have.
 
-ghost use Rattle.std.specs.Prelude.{◌≡◌, ◌&&◌, ◌||◌, false};
+ghost use Rattle.std.specs.Prelude.{◌≡◌, ◌&&◌, ◌||◌};
+ghost use Rattle.tpl_model.specs.Prelude.{as_facts};
 ghost use Rattle.tpl_paths.specs.Prelude.{has_fact, has_token, knowledge_of};
 
 use crate::facts::Facts;
 use crate::token_set::TokenSet;
 
 /// What all paths to a place have: tokens that are requested there, and facts that hold once the
-/// children have ended that the paths started.
+/// children have ended that the paths started, these tokens among them.
 #[derive(Drop)]
 pub struct Knowledge {
     pub requested: TokenSet,
@@ -19,12 +20,12 @@ impl Knowledge {
     pub(crate) fn of(tokens: TokenSet) -> Knowledge
         ensures { knowledge_of result ≡ record {
           requested = has_token tokens;
-          later = λ f. false;
+          later = as_facts (has_token tokens);
         } }
     {
         Knowledge {
             requested: tokens,
-            later: Facts::none(),
+            later: Facts::of(tokens),
         }
     }
 
@@ -42,10 +43,10 @@ impl Knowledge {
     pub(crate) fn knowing(&self, tokens: TokenSet) -> Knowledge
         ensures { knowledge_of result ≡ record {
           requested = λ k. has_token tokens k || (knowledge_of self.now).requested k;
-          later = (knowledge_of self.now).later;
+          later = λ f. as_facts (has_token tokens) f || (knowledge_of self.now).later f;
         } }
     {
-        let later = self.later.copy();
+        let later = self.later.knowing(tokens);
         Knowledge {
             requested: tokens.union(self.requested),
             later,

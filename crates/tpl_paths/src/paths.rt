@@ -9,7 +9,7 @@ use crate::knowledge::Knowledge;
 use crate::token_set::TokenSet;
 use tpl_model::{TokenId, View};
 
-/// The paths, and others, if these count.
+/// What both sets of paths have in common, if the others count; else what the first have.
 pub(crate) fn meet_if(test: bool, paths: &mut Option<Knowledge>, others: &Option<Knowledge>)
     ensures { told paths.new ≡ meet (told paths.old) (when test (told others.now)) }
 {
@@ -18,7 +18,7 @@ pub(crate) fn meet_if(test: bool, paths: &mut Option<Knowledge>, others: &Option
     }
 }
 
-/// The paths, and others.
+/// What both sets of paths have in common.
 pub(crate) fn meet(paths: &mut Option<Knowledge>, others: &Option<Knowledge>)
     ensures { told paths.new ≡ meet (told paths.old) (told others.now) }
 {
@@ -31,7 +31,7 @@ pub(crate) fn meet(paths: &mut Option<Knowledge>, others: &Option<Knowledge>)
     }
 }
 
-/// The paths, and others which know these tokens too, if these count.
+/// What both sets of paths have in common, if the others count, which know these tokens too; else what the first have.
 pub(crate) fn meet_knowing_if(
     test: bool,
     paths: &mut Option<Knowledge>,
@@ -46,7 +46,7 @@ pub(crate) fn meet_knowing_if(
     }
 }
 
-/// The paths, and others which know these tokens too.
+/// What both sets of paths have in common, where the others know these tokens too.
 fn meet_knowing(paths: &mut Option<Knowledge>, tokens: TokenSet, others: &Option<Knowledge>)
     ensures { told paths.new ≡ meet (told paths.old) (with_tokens (has_token tokens)
         (told others.now)) }
@@ -55,7 +55,10 @@ fn meet_knowing(paths: &mut Option<Knowledge>, tokens: TokenSet, others: &Option
         None => {}
         Some(other) => match paths {
             None => *paths = Some(other.knowing(tokens)),
-            Some(known) => known.narrow(tokens.union(other.requested), &other.later),
+            Some(known) => {
+                let other = other.knowing(tokens);
+                known.narrow(other.requested, &other.later);
+            }
         },
     }
 }
@@ -75,7 +78,7 @@ pub(crate) fn add_tokens(tokens: TokenSet, paths: &mut Option<Knowledge>)
 {
     match paths {
         None => {}
-        Some(known) => known.requested = tokens.union(known.requested),
+        Some(known) => *known = known.knowing(tokens),
     }
 }
 
