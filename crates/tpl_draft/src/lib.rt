@@ -1,4 +1,15 @@
 //! Drafts of task graphs, with names, and where each refusal of one applies first.
+//!
+//! ## Choices
+//!
+//! - **The option fault that a word isn't for a kind belongs to graphs**: words alone know two faults.
+//! - **A fault's place is the number of a task, or 0**: more than 32 sources of a token is TooMany at 0; a site that
+//!   stands twice, or is one too many, applies at the task up to which the text has it.
+//! - **The option faults of a graph are three** (ExcludesAll, LongAndSync, WrongKind), the least of the earliest task
+//!   that has one.
+//! - **Drafts stand in a crate below graphs.** `tpl_draft` has drafts with their names, how names are numbered, and
+//!   where each refusal applies first; `tpl_graph` makes a graph of a draft that has none, and reads it. In one crate
+//!   they were nearly two hundred functions, and everything above had to wait for their proof.
 #![tactic(auto)]
 
 mod ask;

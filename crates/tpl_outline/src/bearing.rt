@@ -6,16 +6,21 @@ ghost use Rattle.tpl_model.specs.Prelude.{is_task, mem, names};
 use crate::stuck::may_be_stuck;
 use tpl_checker::{Assumptions, parent};
 use tpl_graph::{Graph, Role};
-use tpl_model::{MOST_TASKS, Property, TaskId, TaskSet};
+use tpl_model::{MOST_TASKS, Property, RuleSet, TaskId, TaskSet};
 
-/// The tasks that bear on a property where this is assumed: those of which it speaks, what these wait
+/// The tasks that bear on a property by the rules where this is assumed: those of which it speaks, what these wait
 /// for, their parents and their attached children, and what bears on these in turn; and where the
 /// property is also proved if no run is complete, likewise those that may never end by what is
 /// assumed. How any other task ends changes nothing of what is proved of them; of that no clause speaks.
-pub fn bearing_tasks(graph: &Graph, property: Property, assumed: &Assumptions) -> TaskSet
+pub fn bearing_tasks(
+    graph: &Graph,
+    property: Property,
+    assumed: &Assumptions,
+    rules: RuleSet,
+) -> TaskSet
     ensures { (x : ℕ) → x < MOST_TASKS → names property x ≡ true → mem x result ≡ true }
 {
-    let mut bearing = with_stuck(graph, named(property), property, assumed);
+    let mut bearing = with_stuck(graph, named(property), property, assumed, rules);
     for _ in 0..MOST_TASKS {
         let wider = widened(graph, &bearing);
         if wider.same(&bearing) {
@@ -40,13 +45,19 @@ fn named(property: Property) -> TaskSet
     tasks
 }
 
-/// Adds the tasks that may never end by what is assumed, if the property is also proved where no run is
-/// complete.
-fn with_stuck(graph: &Graph, tasks: TaskSet, property: Property, assumed: &Assumptions) -> TaskSet
+/// Adds the tasks that may never end by what is assumed, if by the rules the property is also proved where no
+/// run is complete.
+fn with_stuck(
+    graph: &Graph,
+    tasks: TaskSet,
+    property: Property,
+    assumed: &Assumptions,
+    rules: RuleSet,
+) -> TaskSet
     ensures { (x : ℕ) → mem x tasks ≡ true → mem x result ≡ true }
 {
     let mut tasks = tasks;
-    if !rests_on_ends(property, assumed) {
+    if !rests_on_ends(property, rules) {
         return tasks;
     }
     for task in 0..graph.len() {
@@ -58,10 +69,10 @@ fn with_stuck(graph: &Graph, tasks: TaskSet, property: Property, assumed: &Assum
     tasks
 }
 
-/// The property is also proved where no run is complete.
-fn rests_on_ends(property: Property, assumed: &Assumptions) -> bool {
+/// By the rules the property is also proved where no run is complete.
+fn rests_on_ends(property: Property, rules: RuleSet) -> bool {
     match property {
-        Property::Observed(_) => assumed.is_wide(),
+        Property::Observed(_) => rules == RuleSet::Wide,
         Property::Runs(_) => true,
         _ => false,
     }

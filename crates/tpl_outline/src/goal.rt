@@ -7,7 +7,7 @@ use crate::bits::Bits;
 use crate::rows::{Parts, may_end_early};
 use tpl_checker::{parent, some_end};
 use tpl_graph::Role;
-use tpl_model::{Property, TaskId, TaskSet};
+use tpl_model::{Property, RuleSet, TaskId, TaskSet};
 
 /// Whether the least rows prove the property, on which these tasks bear, where an observed task has
 /// a chain or not.
@@ -27,7 +27,7 @@ pub(crate) fn is_reached(
         Property::Observed(task) => {
             let fate = parts.outline.fate(task);
             let throws = fate.runs && fate.ends.faulted && fate.verdicts.thrown;
-            has_chain || !throws || parts.assumed.is_wide() && none_complete(parts, tasks)
+            has_chain || !throws || parts.rules == RuleSet::Wide && none_complete(parts, tasks)
         }
         Property::Never(task) => !parts.outline.fate(task).runs,
         Property::Excludes(first, second) => {
@@ -141,10 +141,9 @@ impl Places {
     /// after each of those that may end.
     fn is_past_any(&self, parts: Parts<'_>, task: TaskId) -> bool {
         let args = parts.followers.args(task);
-        let winners = if parts.assumed.is_wide() {
-            parts.outline.ending(args)
-        } else {
-            *args
+        let winners = match parts.rules {
+            RuleSet::Narrow => *args,
+            RuleSet::Wide => parts.outline.ending(args),
         };
         winners.meets(&self.after) && winners.is_within(&self.after)
     }

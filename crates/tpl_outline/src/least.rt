@@ -53,6 +53,7 @@ pub fn is_proved(
         followers: setting.followers,
         assumed: setting.assumed,
         outline,
+        rules: setting.rules,
     };
     is_reached(parts, property, tasks, has_chain)
 }
@@ -76,6 +77,7 @@ pub fn least_rows(
         followers: setting.followers,
         assumed: setting.assumed,
         outline: &outline,
+        rules: setting.rules,
     };
     rows(alloc, parts, observed(property), chain)
 }

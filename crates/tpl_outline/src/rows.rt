@@ -8,7 +8,7 @@ use crate::outline::Outline;
 use std::alloc::{AllocError, Global};
 use tpl_checker::{Assumptions, Below, parent, some_end};
 use tpl_graph::{Graph, Role};
-use tpl_model::{MOST_TASKS, TaskId, TaskSet};
+use tpl_model::{MOST_TASKS, RuleSet, TaskId, TaskSet};
 use tpl_trees::Row;
 
 /// What the rows of a leaf are made of.
@@ -19,6 +19,7 @@ pub(crate) struct Parts<'s> {
     pub(crate) followers: &'s Followers,
     pub(crate) assumed: &'s Assumptions,
     pub(crate) outline: &'s Outline,
+    pub(crate) rules: RuleSet,
 }
 
 /// A row for each task. The chain is that of the observed task, if there is one; no other task has
@@ -168,5 +169,5 @@ fn settled_after_each(parts: Parts<'_>, rows: &[Row], tasks: &[TaskId]) -> TaskS
 
 /// A task may end first of those for which a WhenAny task waits: by the wide rules one that can't end can't.
 fn may_win(parts: Parts<'_>, task: TaskId) -> bool {
-    !parts.assumed.is_wide() || some_end(parts.outline.fate(task).ends)
+    parts.rules == RuleSet::Narrow || some_end(parts.outline.fate(task).ends)
 }

@@ -4,6 +4,7 @@ use crate::followers::Followers;
 use crate::stages::Stage;
 use tpl_checker::{Assumptions, Below};
 use tpl_graph::Graph;
+use tpl_model::RuleSet;
 
 /// A graph under what is assumed, with what is made of the graph once.
 #[derive(Clone, Copy)]
@@ -16,4 +17,6 @@ pub struct Setting<'s> {
     /// Which tasks look at each task, and for which it waits.
     pub followers: &'s Followers,
     pub assumed: &'s Assumptions,
+    /// By which rules leaves are judged.
+    pub rules: RuleSet,
 }

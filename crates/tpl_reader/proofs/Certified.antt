@@ -35,7 +35,7 @@ top_with ms m ds is =
     let p = parts_of (object ms) m is in
     let q = p.1 in
     top_put (codes "certificate") (array (items_of ds)) ms (record m { certificate = ds }) refl p.0
-    (record { version = q.version; note = q.note; ended = q.ended; inputs = q.inputs; tokens = q.tokens; tasks = q.tasks; claims = q.claims; certificate = there ds; journal = q.journal; times = q.times; start = q.start })
+    (record { version = q.version; note = q.note; schema = q.schema; ended = q.ended; inputs = q.inputs; tokens = q.tokens; tasks = q.tasks; claims = q.claims; certificate = there ds; journal = q.journal; times = q.times; start = q.start })
 
 -- ---- the document
 

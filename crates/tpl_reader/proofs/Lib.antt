@@ -11,3 +11,5 @@ pub mod OneDocument
 pub mod Faultless
 pub mod Certified
 pub mod Claimed
+pub mod Returns
+pub mod Marked

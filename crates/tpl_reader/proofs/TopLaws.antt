@@ -22,6 +22,7 @@ Look = List ℕ → Option Data
 pub record Parts (look : Look) (m : Members) : Type 0 where
   pub version : (look (codes "version") >>= version_at) ≡ Some m.version
   pub note : note_at (look (codes "note")) ≡ Some tt
+  pub schema : (text : List ℕ) × (text_or_empty (look (codes "$schema")) ≡ Some text)
   pub ended : ends_or_none (look (codes "ended")) ≡ Some m.ended
   pub inputs : (list_or_none (look (codes "inputs")) >>= each as_str) ≡ Some m.inputs
   pub tokens : (list_or_none (look (codes "tokens")) >>= each (token_at (has_links m.version))) ≡ Some m.tokens
@@ -39,7 +40,8 @@ parts_of d m e =
     let version = bind_some (get (codes "version") d >>= version_at) _ m e in
     let only = bind_some (only_if (has_only (top_names version.0) d)) _ m version.2 in
     let note = bind_some (note_at (get (codes "note") d)) _ m only.2 in
-    let ended = bind_some (ends_or_none (get (codes "ended") d)) _ m note.2 in
+    let schema = bind_some (text_or_empty (get (codes "$schema") d)) _ m note.2 in
+    let ended = bind_some (ends_or_none (get (codes "ended") d)) _ m schema.2 in
     let inputs = bind_some (list_or_none (get (codes "inputs") d) >>= each as_str) _ m ended.2 in
     let tokens = bind_some (list_or_none (get (codes "tokens") d) >>= each (token_at (has_links version.0))) _ m inputs.2 in
     let tasks = bind_some (get (codes "tasks") d >>= list_in) _ m tokens.2 in
@@ -49,12 +51,12 @@ parts_of d m e =
     let times = bind_some (times_or_none journal.0 (get (codes "times") d)) _ m journal.2 in
     let whole : record { version = version.0; inputs = inputs.0; tokens = tokens.0; tasks = tasks.0; claims = claims.0; certificate = certificate.0; journal = journal.0; start = get (codes "start") d; ended = ended.0; times = times.0 } ≡ m = some_is _ m times.2 in
     subst (λ (x : Members). (has_only (top_names x.version) d ≡ true) × Parts (λ name. get name d) x) whole
-    (only_is _ _ only.1, record { version = version.1; note = note.1; ended = ended.1; inputs = inputs.1; tokens = tokens.1; tasks = tasks.1; claims = claims.1; certificate = certificate.1; journal = journal.1; times = times.1; start = refl })
+    (only_is _ _ only.1, record { version = version.1; note = note.1; schema = (schema.0, schema.1); ended = ended.1; inputs = inputs.1; tokens = tokens.1; tasks = tasks.1; claims = claims.1; certificate = certificate.1; journal = journal.1; times = times.1; start = refl })
 
 -- and the members that are made of them
 pub top_of : (d : Data) (m : Members) → has_only (top_names m.version) d ≡ true → Parts (λ name. get name d) m → top_at d ≡ Some m
 unfolding top_at
-top_of d m only p = rw (p.version, only, p.note, p.ended, p.inputs, p.tokens, p.tasks, p.claims, p.certificate, p.journal, p.times, p.start) refl
+top_of d m only p = rw (p.version, only, p.note, p.schema.1, p.ended, p.inputs, p.tokens, p.tasks, p.claims, p.certificate, p.journal, p.times, p.start) refl
 
 -- ---- one member is another
 
@@ -66,6 +68,7 @@ pub moved : (look new : Look) (m : Members) → ((name : List ℕ) → look name
 moved look new m same p = record {
   version = subst (λ (o : Option Data). (o >>= version_at) ≡ Some m.version) (same (codes "version")) p.version;
   note = subst (λ (o : Option Data). note_at o ≡ Some tt) (same (codes "note")) p.note;
+  schema = (p.schema.0, subst (λ (o : Option Data). text_or_empty o ≡ Some p.schema.0) (same (codes "$schema")) p.schema.1);
   ended = subst (λ (o : Option Data). ends_or_none o ≡ Some m.ended) (same (codes "ended")) p.ended;
   inputs = subst (λ (o : Option Data). (list_or_none o >>= each as_str) ≡ Some m.inputs) (same (codes "inputs")) p.inputs;
   tokens = subst (λ (o : Option Data). (list_or_none o >>= each (token_at (has_links m.version))) ≡ Some m.tokens) (same (codes "tokens")) p.tokens;

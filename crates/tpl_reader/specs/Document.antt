@@ -15,6 +15,7 @@ use Rattle.tpl_parts.specs.Versions.{rules_since}
 use Rattle.tpl_parts.specs.Start.{NamedStart}
 use Rattle.tpl_json.specs.Passes.{◌>>=◌}
 use Rattle.tpl_reader.specs.declared.read.TheConstants.{LONGEST}
+use Rattle.tpl_reader.specs.Bytes.{behind_mark, journal_in}
 use Rattle.tpl_reader.specs.Begin.{StartValue, start_if_any}
 use Rattle.tpl_reader.specs.Ends.{knows_ends, ends_in}
 use Rattle.tpl_reader.specs.Shape.{Spelled, spelled_at}
@@ -53,7 +54,7 @@ pub record IsDocument (s : Spelled) (doc : DocumentValue) : Type 0 where
   pub claims : claims_for s.version doc.graph s.claims ≡ Ok doc.claims
   pub names : doc.names ≡ map (λ c. c.name) s.claims
   pub certificate : trees_in (rules_since s.version) doc.graph.names s.certificate ≡ Ok doc.certificate
-  pub journal : doc.journal ≡ s.journal
+  pub journal : doc.journal ≡ journal_in s.version s.journal
   pub start : begin_in doc.graph s.start s.ended ≡ Ok doc.start
   pub ended : doc.ended ≡ ends_in doc.graph.names.tasks s.ended
   pub times : doc.times ≡ s.times
@@ -83,9 +84,9 @@ IsRefused s (faults.Shape p) = ⊥
 abbrev pub longest : ℕ
 longest = LONGEST
 
--- what the bytes read as
+-- what the bytes read as; a byte order mark at the front is passed over
 abbrev pub Reads : List ℕ → Data → Type 0
-Reads bytes d = IsUtf8 bytes × (read bytes ≡ Some d)
+Reads bytes d = IsUtf8 (behind_mark bytes) × (read (behind_mark bytes) ≡ Some d)
 
 -- the bytes spell the document
 abbrev pub Spells : List ℕ → DocumentValue → Type 0
@@ -108,7 +109,7 @@ GivesInputs s graph inputs = (start : StartValue) × (begin_in graph s.start s.e
 abbrev pub SpellsClaimsWith : List ℕ → Named → List Claim → List Bool → List ℕ → Type 0
 SpellsClaimsWith bytes graph claims inputs journal =
     (length bytes ≤ longest)
-    × ((d : Data) × Reads bytes d × ((s : Spelled) × (spelled_at d ≡ Ok s) × AreClaims s graph claims × GivesInputs s graph inputs × (journal ≡ s.journal)))
+    × ((d : Data) × Reads bytes d × ((s : Spelled) × (spelled_at d ≡ Ok s) × AreClaims s graph claims × GivesInputs s graph inputs × (journal ≡ journal_in s.version s.journal)))
 
 -- what is wrong with bytes that spell no document, memory aside
 abbrev pub IsFault : List ℕ → ReadFault → Type 0

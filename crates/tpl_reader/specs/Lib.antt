@@ -1,3 +1,4 @@
+pub mod Bytes
 pub mod Faults
 pub mod Trees
 pub mod Asked

@@ -45,7 +45,7 @@ version_at d = whole_at d >>= version_in
 abbrev pub added : Version → List (List ℕ)
 added One = []
 added Two = []
-added Three = codes "note" ∷ codes "ended" ∷ codes "times" ∷ []
+added Three = codes "note" ∷ codes "ended" ∷ codes "times" ∷ codes "$schema" ∷ []
 
 -- how tasks were seen to end, if that is said
 unfoldable pub ends_or_none : Option Data → Option (Option Data)
@@ -86,6 +86,7 @@ top_at d = do
   version ← get (codes "version") d >>= version_at
   only ← only_if (has_only (top_names version) d)
   note ← note_at (get (codes "note") d)
+  schema ← text_or_empty (get (codes "$schema") d)
   ended ← ends_or_none (get (codes "ended") d)
   inputs ← list_or_none (get (codes "inputs") d) >>= each as_str
   tokens ← list_or_none (get (codes "tokens") d) >>= each (token_at (has_links version))

@@ -1,5 +1,6 @@
 //! Who hears what the bytes of a document read as.
 
+use crate::document::Document;
 use crate::fault::ReadFault;
 use json::Value;
 use std::alloc::Global;
@@ -8,10 +9,10 @@ use tpl_json::NotRead;
 /// Who hears what the bytes of a document read as, and may say in words why they spell none. It is told while the value is at
 /// hand, so that no text is read a second time for the words. No document and no fault depends on it.
 pub trait Hear: Copy {
-    /// The bytes read as this value, which spells a document.
-    fn document(self, _alloc: Global, _value: &Value<'_>) {}
+    /// The bytes read as this value, which spells this document.
+    fn document(self, _alloc: Global, _value: &Value<'_>, _document: &Document) {}
 
-    /// What is said of bytes that are no JSON text, if anything.
+    /// What is said of bytes that are no JSON text, if anything: of those behind a byte order mark.
     fn no_json(self, _alloc: Global, _bytes: &[u8], _why: NotRead) -> Option<String> {
         None
     }

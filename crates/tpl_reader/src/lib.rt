@@ -1,8 +1,14 @@
 //! Documents of task graphs, claims and certificates, read from JSON.
+//!
+//! ## Choices
+//!
+//! - **The first wrong part is named**: the shape of the whole document before its graph, then claims, then trees,
+//!   then the start.
 #![tactic(auto)]
 
 mod asked;
 mod begin;
+mod bytes;
 mod document;
 mod ends;
 mod fault;
@@ -13,6 +19,7 @@ mod shape;
 mod top;
 mod trees;
 
+pub use bytes::behind_mark;
 pub use document::{Document, Start};
 pub use fault::{ClaimFault, Part, ReadFault, StartFault};
 pub use hear::{Hear, Misread, Unheard};

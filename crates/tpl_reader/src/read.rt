@@ -7,12 +7,13 @@ ghost use Rattle.tpl_graph.specs.Prelude.{Fits};
 ghost use Rattle.tpl_json.specs.Prelude.{Yields, view};
 ghost use Rattle.tpl_model.specs.Prelude.{is_task};
 ghost use Rattle.tpl_parts.specs.Prelude.{claim_of, rules_since, start_of};
-ghost use Rattle.tpl_reader.specs.Prelude.{HasNoOthers, IsDocument, IsFault, IsRefused, Reads, Spells, begin_in, claims_for, doc_of, ends_in, longest, most_claims, spelled_of, spelled_with, trees_by, trees_in, value_of};
+ghost use Rattle.tpl_reader.specs.Prelude.{HasNoOthers, IsDocument, IsFault, IsRefused, Reads, Spells, begin_in, claims_for, doc_of, ends_in, journal_in, longest, most_claims, spelled_of, spelled_with, trees_by, trees_in, value_of};
 ghost use Rattle.tpl_reader.specs.declared.fault.ReadFault.TheVariants.{Memory};
 ghost use Rattle.tpl_trees.specs.Prelude.{IsWithinLimits, IsWithinWideLimits};
 
 use crate::asked::claims_in;
 use crate::begin::begin_in;
+use crate::bytes::{behind_mark, journal_in};
 use crate::document::{Document, Start};
 use crate::ends::ends_in;
 use crate::fault::{ClaimFault, ReadFault};
@@ -115,7 +116,8 @@ fn rest_of(
         r.trees.wide.items) }
     ensures plain { IfOk result (λ r. All IsWithinLimits r.trees.plain.items) }
     ensures wide { IfOk result (λ r. All IsWithinWideLimits r.trees.wide.items) }
-    ensures journal { IfOk result (λ r. string_bytes r.journal ≡ named.now.journal.now) }
+    ensures journal { IfOk result (λ r. string_bytes r.journal
+        ≡ journal_in version named.now.journal.now) }
     ensures start { IfOk result (λ r. begin_in graph.now (option_map start_of named.now.start)
         (option_map (λ v. view v.now) named.now.ended) ≡ Ok (option_map value_of r.start)) }
     ensures names { IfOk result (λ r. map (λ n. option_map string_bytes n) r.names.items
@@ -126,7 +128,7 @@ fn rest_of(
     ensures err { IfErr result (λ e. (d : spec.Draft) (times : Option (List ℕ)) → IsValid d
         → graph.now ≡ numbered d → IsRefused (spelled_with version d named.now times) e) }
 {
-    let journal = String::from_str(alloc, named.journal)?;
+    let journal = journal_in(alloc, version, named.journal)?;
     let claims = claims_for(alloc, version, graph, &named.claims)?;
     let trees = trees_in(alloc, version.rules(), graph, named.certificate)?;
     let start = begin_in(alloc, graph, &named.start, named.ended)?;
@@ -189,7 +191,7 @@ fn document_from(alloc: Global, value: &Value<'_>) -> Result<Document, ReadFault
 }
 
 /// The document that the bytes spell: a JSON text in UTF-8 as `serde_json` reads it, of at most 16,777,216 bytes and 127
-/// levels, whose version is 1, 2 or 3. Each claim can be asked of its graph, and each tree is within the limits, so that the
+/// levels, whose version is 1, 2 or 3. One byte order mark at the front is passed over. Each claim can be asked of its graph, and each tree is within the limits, so that the
 /// certificate can be checked. Else the least `ReadFault` that applies to the whole document, or `Memory`.
 pub fn read_document(alloc: Global, bytes: &[u8]) -> Result<Document, ReadFault>
     ensures ok { IfOk result (λ d. Spells bytes.now (doc_of d)) }
@@ -222,10 +224,11 @@ pub fn read_document_heard<H: Hear>(
         return Err(unsaid(ReadFault::TooLong));
     }
     let mut scratch = Scratch::new(alloc);
-    match value_from(alloc, bytes, &mut scratch) {
+    let text = behind_mark(bytes);
+    match value_from(alloc, text, &mut scratch) {
         Ok(value) => match document_from(alloc, &value) {
             Ok(document) => {
-                hear.document(alloc, &value);
+                hear.document(alloc, &value, &document);
                 Ok(document)
             }
             Err(fault) => Err(Misread {
@@ -236,7 +239,7 @@ pub fn read_document_heard<H: Hear>(
         Err(NotRead::Memory) => Err(unsaid(ReadFault::Memory)),
         Err(why) => Err(Misread {
             fault: ReadFault::NotJson,
-            words: hear.no_json(alloc, bytes, why),
+            words: hear.no_json(alloc, text, why),
         }),
     }
 }

@@ -97,7 +97,7 @@ fn added(version: Version) -> &'static [&'static str]
 {
     match version {
         Version::One | Version::Two => &[],
-        Version::Three => &["note", "ended", "times"],
+        Version::Three => &["note", "ended", "times", "$schema"],
     }
 }
 
@@ -226,6 +226,7 @@ pub(crate) fn members_of<'v, 't>(
         return Err(Miss::Wrong(Shape { at: value }));
     }
     note_of(value)?;
+    let _schema = text_or_empty(value, "$schema")?;
     let ended = ends_or_none(alloc, value)?;
     let names = list_or_none(value, "inputs")?;
     let inputs = owned_texts(alloc, names)?;
