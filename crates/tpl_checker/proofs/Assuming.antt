@@ -10,10 +10,10 @@ use Rattle.tpl_model.specs.View.{may_have}
 use Rattle.tpl_model.specs.declared.finals.Finals.{Finals}
 use Rattle.tpl_model.specs.Finals.{has, is_final}
 use Rattle.tpl_model.proofs.MemberLemmas.{same_either_way}
-use Rattle.tpl_model.specs.Certificate.{same, with_input, with_end, is_wide}
+use Rattle.tpl_model.specs.Certificate.{same, with_input, with_end}
 use Rattle.tpl_checker.specs.declared.assumptions.Assumptions.{Assumptions}
-use Rattle.tpl_checker.specs.declared.cut.Cut.{Cut}
-use Rattle.tpl_checker.specs.Cut.{left_by}
+use Rattle.tpl_checker.specs.declared.left.Left.{Left}
+use Rattle.tpl_checker.specs.Left.{left_by}
 use Rattle.tpl_checker.specs.Assumptions.{assumed_of, both, nothing_assumed, with_kept, with_ended}
 
 and_true : (b : Bool) → b ≡ b && true
@@ -47,43 +47,42 @@ replicate_same zero j d = refl
 replicate_same (suc n) zero d = refl
 replicate_same (suc n) (suc j) d = replicate_same n j d
 
--- a cut of empty sets leaves each end
-pub none_cut : (c : Cut) → c.not_ran ≡ [] → c.not_canceled ≡ [] → c.not_faulted ≡ [] → (t : ℕ) (f : Final) → left_by c t f ≡ true
-none_cut c r a f t RanToCompletion = ap (λ z. not (mem t z)) r
-none_cut c r a f t Canceled = ap (λ z. not (mem t z)) a
-none_cut c r a f t Faulted = ap (λ z. not (mem t z)) f
+-- empty sets leave each end
+pub all_left : (c : Left) → c.not_ran ≡ [] → c.not_canceled ≡ [] → c.not_faulted ≡ [] → (t : ℕ) (f : Final) → left_by c t f ≡ true
+all_left c r a f t RanToCompletion = ap (λ z. not (mem t z)) r
+all_left c r a f t Canceled = ap (λ z. not (mem t z)) a
+all_left c r a f t Faulted = ap (λ z. not (mem t z)) f
 
 kept_one : (new old there back keeps : Bool) → new ≡ (not keeps && there || old) → there ≡ back → not new ≡ (not old && (not back || keeps))
 kept_one new old there back keeps e f = grind arith
 
--- a cut that takes from one task all ends but these
-pub kept_cut : (old new : Cut) (t : ℕ) (ends : Finals) → ((x : ℕ) → mem x new.not_ran ≡ (not ends.ran && nat_eq x t || mem x old.not_ran)) → ((x : ℕ) → mem x new.not_canceled ≡ (not ends.canceled && nat_eq x t || mem x old.not_canceled)) → ((x : ℕ) → mem x new.not_faulted ≡ (not ends.faulted && nat_eq x t || mem x old.not_faulted)) → (s : ℕ) (f : Final) → left_by new s f ≡ (left_by old s f && (not (nat_eq t s) || has ends f))
-kept_cut old new t ends r c a s RanToCompletion = kept_one (mem s new.not_ran) (mem s old.not_ran) (nat_eq s t) (nat_eq t s) ends.ran (r s) (same_either_way s t)
-kept_cut old new t ends r c a s Canceled = kept_one (mem s new.not_canceled) (mem s old.not_canceled) (nat_eq s t) (nat_eq t s) ends.canceled (c s) (same_either_way s t)
-kept_cut old new t ends r c a s Faulted = kept_one (mem s new.not_faulted) (mem s old.not_faulted) (nat_eq s t) (nat_eq t s) ends.faulted (a s) (same_either_way s t)
+-- one task loses all ends but these
+pub kept_left : (old new : Left) (t : ℕ) (ends : Finals) → ((x : ℕ) → mem x new.not_ran ≡ (not ends.ran && nat_eq x t || mem x old.not_ran)) → ((x : ℕ) → mem x new.not_canceled ≡ (not ends.canceled && nat_eq x t || mem x old.not_canceled)) → ((x : ℕ) → mem x new.not_faulted ≡ (not ends.faulted && nat_eq x t || mem x old.not_faulted)) → (s : ℕ) (f : Final) → left_by new s f ≡ (left_by old s f && (not (nat_eq t s) || has ends f))
+kept_left old new t ends r c a s RanToCompletion = kept_one (mem s new.not_ran) (mem s old.not_ran) (nat_eq s t) (nat_eq t s) ends.ran (r s) (same_either_way s t)
+kept_left old new t ends r c a s Canceled = kept_one (mem s new.not_canceled) (mem s old.not_canceled) (nat_eq s t) (nat_eq t s) ends.canceled (c s) (same_either_way s t)
+kept_left old new t ends r c a s Faulted = kept_one (mem s new.not_faulted) (mem s old.not_faulted) (nat_eq s t) (nat_eq t s) ends.faulted (a s) (same_either_way s t)
 
 -- on the branch of a split on an end
-pub with_cut : (a : Assumptions) (cut : Cut) (t : ℕ) (f : Final) (ends : Finals) → ((e : Final) → has ends e ≡ is_final f e) → ((s : ℕ) (e : Final) → left_by cut s e ≡ (left_by a.cut s e && (not (nat_eq t s) || has ends e))) → assumed_of (record a { cut = cut }) ≡ with_end (assumed_of a) t f
-with_cut a cut t f ends only h = λ k. record (assumed_of a) { cut = λ s e. (h s e ∙ ap (λ z. left_by a.cut s e && (not (nat_eq t s) || z)) (only e)) k }
+pub with_left : (a : Assumptions) (left : Left) (t : ℕ) (f : Final) (ends : Finals) → ((e : Final) → has ends e ≡ is_final f e) → ((s : ℕ) (e : Final) → left_by left s e ≡ (left_by a.left s e && (not (nat_eq t s) || has ends e))) → assumed_of (record a { left = left }) ≡ with_end (assumed_of a) t f
+with_left a left t f ends only h = λ k. record (assumed_of a) { left = λ s e. (h s e ∙ ap (λ z. left_by a.left s e && (not (nat_eq t s) || z)) (only e)) k }
 
 -- where one more task ends in some of the ways
-pub with_kept_cut : (a : Assumptions) (cut : Cut) (t : ℕ) (ends : Finals) → ((s : ℕ) (e : Final) → left_by cut s e ≡ (left_by a.cut s e && (not (nat_eq t s) || has ends e))) → assumed_of (record a { cut = cut }) ≡ with_kept (assumed_of a) t ends
-with_kept_cut a cut t ends h = λ k. record (assumed_of a) { cut = λ s e. h s e k }
+pub with_kept_left : (a : Assumptions) (left : Left) (t : ℕ) (ends : Finals) → ((s : ℕ) (e : Final) → left_by left s e ≡ (left_by a.left s e && (not (nat_eq t s) || has ends e))) → assumed_of (record a { left = left }) ≡ with_kept (assumed_of a) t ends
+with_kept_left a left t ends h = λ k. record (assumed_of a) { left = λ s e. h s e k }
 
 -- where the end of one more task is given
-pub with_given_cut : (a : Assumptions) (cut : Cut) (t : ℕ) (ends : Finals) → ((s : ℕ) (e : Final) → left_by cut s e ≡ (left_by a.ended s e && (not (nat_eq t s) || has ends e))) → assumed_of (record a { ended = cut }) ≡ with_ended (assumed_of a) t ends
-with_given_cut a cut t ends h = λ k. record (assumed_of a) { ended = λ s e. h s e k }
+pub with_given_left : (a : Assumptions) (left : Left) (t : ℕ) (ends : Finals) → ((s : ℕ) (e : Final) → left_by left s e ≡ (left_by a.ended s e && (not (nat_eq t s) || has ends e))) → assumed_of (record a { ended = left }) ≡ with_ended (assumed_of a) t ends
+with_given_left a left t ends h = λ k. record (assumed_of a) { ended = λ s e. h s e k }
 
 -- from no entry and no set
-pub none_assumed : (a : Assumptions) → a.inputs ≡ replicate 16 both → a.quiet ≡ replicate 32 false → ((t : ℕ) (f : Final) → left_by a.cut t f ≡ true) → ((t : ℕ) (f : Final) → left_by a.ended t f ≡ true) → a.sure ≡ replicate 256 false → assumed_of a ≡ nothing_assumed (is_wide a.rules)
-none_assumed a is quiet cut ended sure =
+pub none_assumed : (a : Assumptions) → a.inputs ≡ replicate 16 both → a.quiet ≡ replicate 32 false → ((t : ℕ) (f : Final) → left_by a.left t f ≡ true) → ((t : ℕ) (f : Final) → left_by a.ended t f ≡ true) → a.sure ≡ replicate 256 false → assumed_of a ≡ nothing_assumed
+none_assumed a is quiet left ended sure =
     λ k. record {
       possible = λ j b. (ap (λ z. may_have (slice_index_or z j both) b) is ∙ (ap (λ z. may_have z b) (replicate_same 16 j both) ∙ both_has b)) k;
       quiet = λ j. (ap (λ z. slice_index_or z j false) quiet ∙ replicate_same 32 j false) k;
-      cut = λ t f. cut t f k;
+      left = λ t f. left t f k;
       ended = λ t f. ended t f k;
       sure = λ j. (ap (λ z. slice_index_or z j false) sure ∙ replicate_same 256 j false) k;
-      wide = is_wide a.rules;
     }
   where
     both_has : (b : Bool) → may_have both b ≡ true

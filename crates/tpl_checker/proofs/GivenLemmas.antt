@@ -157,83 +157,77 @@ quiet_at_last g law first now q given same j =
     (λ e. q.found given same j (elim ((law g given j).0 e) [ inl p ↦ inl p | inr (m, is, p) ↦ inr (m, (omega arith), is, p) ]))
 
 -- what all of these add is what is assumed with what is left of them
-pub record GivenSoFar (all left : List Given) (wide : Bool) (a : Assumed) : Type 0 where
-  pub possible : (j : ℕ) (b : Bool) → (a.possible j b && given_input left j b) ≡ given_input all j b
-  pub quiet : (j : ℕ) → (a.quiet j || gives_quiet left j) ≡ gives_quiet all j
-  pub cut : (t : ℕ) (f : Final) → a.cut t f ≡ true
-  pub ended : (t : ℕ) (f : Final) → (a.ended t f && given_end left t f) ≡ given_end all t f
-  pub sure : (site : ℕ) → (a.sure site || given_sure left site) ≡ given_sure all site
-  pub rules : a.wide ≡ wide
+pub record GivenSoFar (all rest : List Given) (a : Assumed) : Type 0 where
+  pub possible : (j : ℕ) (b : Bool) → (a.possible j b && given_input rest j b) ≡ given_input all j b
+  pub quiet : (j : ℕ) → (a.quiet j || gives_quiet rest j) ≡ gives_quiet all j
+  pub left : (t : ℕ) (f : Final) → a.left t f ≡ true
+  pub ended : (t : ℕ) (f : Final) → (a.ended t f && given_end rest t f) ≡ given_end all t f
+  pub sure : (site : ℕ) → (a.sure site || given_sure rest site) ≡ given_sure all site
 
-step_input : (all left : List Given) (wide : Bool) (a : Assumed) (k : InputId) (value : Bool) → GivenSoFar all (Input k value ∷ left) wide a → GivenSoFar all left wide (with_input a k.0 value)
-step_input all left wide a k value s = record {
+step_input : (all left : List Given) (a : Assumed) (k : InputId) (value : Bool) → GivenSoFar all (Input k value ∷ left) a → GivenSoFar all left (with_input a k.0 value)
+step_input all left a k value s = record {
   possible = λ j b. and_assoc (a.possible j b) (not (nat_eq k.0 j) || same value b) (given_input left j b) ∙ s.possible j b;
   quiet = s.quiet;
-  cut = s.cut;
+  left = s.left;
   ended = s.ended;
   sure = s.sure;
-  rules = s.rules;
 }
 
-step_quiet : (all left : List Given) (wide : Bool) (a : Assumed) (k : TokenId) → GivenSoFar all (Quiet k ∷ left) wide a → GivenSoFar all left wide (with_quiet a k.0)
-step_quiet all left wide a k s = record {
+step_quiet : (all left : List Given) (a : Assumed) (k : TokenId) → GivenSoFar all (Quiet k ∷ left) a → GivenSoFar all left (with_quiet a k.0)
+step_quiet all left a k s = record {
   possible = s.possible;
   quiet = λ j. or_moved (nat_eq j k.0) (a.quiet j) (gives_quiet left j) ∙ (ap (λ z. a.quiet j || (z || gives_quiet left j)) (same_either_way j k.0) ∙ s.quiet j);
-  cut = s.cut;
+  left = s.left;
   ended = s.ended;
   sure = s.sure;
-  rules = s.rules;
 }
 
-step_ended : (all left : List Given) (wide : Bool) (a : Assumed) (t : TaskId) (ends : Finals) → GivenSoFar all (Ended t ends ∷ left) wide a → GivenSoFar all left wide (with_ended a t.0 ends)
-step_ended all left wide a t ends s = record {
+step_ended : (all left : List Given) (a : Assumed) (t : TaskId) (ends : Finals) → GivenSoFar all (Ended t ends ∷ left) a → GivenSoFar all left (with_ended a t.0 ends)
+step_ended all left a t ends s = record {
   possible = s.possible;
   quiet = s.quiet;
-  cut = s.cut;
+  left = s.left;
   ended = λ x f. and_assoc (a.ended x f) (not (nat_eq t.0 x) || has ends f) (given_end left x f) ∙ s.ended x f;
   sure = s.sure;
-  rules = s.rules;
 }
 
-step_sure : (all left : List Given) (wide : Bool) (a : Assumed) (k : SiteId) → GivenSoFar all (Succeeds k ∷ left) wide a → GivenSoFar all left wide (with_sure a k.0)
-step_sure all left wide a k s = record {
+step_sure : (all left : List Given) (a : Assumed) (k : SiteId) → GivenSoFar all (Succeeds k ∷ left) a → GivenSoFar all left (with_sure a k.0)
+step_sure all left a k s = record {
   possible = s.possible;
   quiet = s.quiet;
-  cut = s.cut;
+  left = s.left;
   ended = s.ended;
   sure = λ j. or_moved (nat_eq j k.0) (a.sure j) (given_sure left j) ∙ (ap (λ z. a.sure j || (z || given_sure left j)) (same_either_way j k.0) ∙ s.sure j);
-  rules = s.rules;
 }
 
 -- one more
-pub given_step : (all given : List Given) (i : ℕ) (wide : Bool) (a next : Assumed) (d : Given) → i < length given → next ≡ with_given a (slice_index_or given i d) → GivenSoFar all (drop i given) wide a → GivenSoFar all (drop (i + 1) given) wide next
-given_step all given i wide a next d lt e s =
-    subst (λ n. GivenSoFar all (drop (i + 1) given) wide n) (sym e)
-    (go (slice_index_or given i d) (subst (λ (xs : List Given). GivenSoFar all xs wide a) (drop_more given i d lt) s))
+pub given_step : (all given : List Given) (i : ℕ) (a next : Assumed) (d : Given) → i < length given → next ≡ with_given a (slice_index_or given i d) → GivenSoFar all (drop i given) a → GivenSoFar all (drop (i + 1) given) next
+given_step all given i a next d lt e s =
+    subst (λ n. GivenSoFar all (drop (i + 1) given) n) (sym e)
+    (go (slice_index_or given i d) (subst (λ (xs : List Given). GivenSoFar all xs a) (drop_more given i d lt) s))
   where
-    go : (x : Given) → GivenSoFar all (x ∷ drop (i + 1) given) wide a → GivenSoFar all (drop (i + 1) given) wide (with_given a x)
-    go (Input k value) f = step_input all (drop (i + 1) given) wide a k value f
-    go (Quiet k) f = step_quiet all (drop (i + 1) given) wide a k f
-    go (Ended t ends) f = step_ended all (drop (i + 1) given) wide a t ends f
-    go (Succeeds k) f = step_sure all (drop (i + 1) given) wide a k f
+    go : (x : Given) → GivenSoFar all (x ∷ drop (i + 1) given) a → GivenSoFar all (drop (i + 1) given) (with_given a x)
+    go (Input k value) f = step_input all (drop (i + 1) given) a k value f
+    go (Quiet k) f = step_quiet all (drop (i + 1) given) a k f
+    go (Ended t ends) f = step_ended all (drop (i + 1) given) a t ends f
+    go (Succeeds k) f = step_sure all (drop (i + 1) given) a k f
 
 -- none yet but the own token, if there is one
-pub given_at_first : (own : Option ℕ) (given : List Given) (wide : Bool) (a : Assumed) → a ≡ with_own (nothing_assumed wide) own → GivenSoFar (as_quiet own ++ given) given wide a
-given_at_first None given wide a e =
-    subst (λ z. GivenSoFar given given wide z) (sym e) (record { possible = λ j b. refl; quiet = λ j. refl; cut = λ t f. refl; ended = λ t f. refl; sure = λ site. refl; rules = refl })
-given_at_first (Some k) given wide a e =
-    subst (λ z. GivenSoFar (Quiet (record { 0 = k }) ∷ given) given wide z) (sym e)
-    (record { possible = λ j b. refl; quiet = λ j. ap (λ z. z || gives_quiet given j) (or_false (nat_eq j k) ∙ same_either_way j k); cut = λ t f. refl; ended = λ t f. refl; sure = λ site. refl; rules = refl })
+pub given_at_first : (own : Option ℕ) (given : List Given) (a : Assumed) → a ≡ with_own (nothing_assumed) own → GivenSoFar (as_quiet own ++ given) given a
+given_at_first None given a e =
+    subst (λ z. GivenSoFar given given z) (sym e) (record { possible = λ j b. refl; quiet = λ j. refl; left = λ t f. refl; ended = λ t f. refl; sure = λ site. refl })
+given_at_first (Some k) given a e =
+    subst (λ z. GivenSoFar (Quiet (record { 0 = k }) ∷ given) given z) (sym e)
+    (record { possible = λ j b. refl; quiet = λ j. ap (λ z. z || gives_quiet given j) (or_false (nat_eq j k) ∙ same_either_way j k); left = λ t f. refl; ended = λ t f. refl; sure = λ site. refl })
 
 -- all of them
-pub given_at_last : (g : TaskGraph) (all given : List Given) (i : ℕ) (wide : Bool) (a : Assumptions) (marks : List Bool) → drop i given ≡ [] → GivenSoFar all (drop i given) wide (assumed_of a) → (((k : ℕ) → slice_index_or a.quiet k false ≡ gives_quiet all k) → (k : ℕ) → slice_index_or marks k false ≡ given_quiet g all k) → assumed_of (record a { quiet = marks }) ≡ assumed wide g all
-given_at_last g all given i wide a marks e s sources =
-    let f : GivenSoFar all [] wide (assumed_of a) = subst (λ (xs : List Given). GivenSoFar all xs wide (assumed_of a)) e s in
+pub given_at_last : (g : TaskGraph) (all given : List Given) (i : ℕ) (a : Assumptions) (marks : List Bool) → drop i given ≡ [] → GivenSoFar all (drop i given) (assumed_of a) → (((k : ℕ) → slice_index_or a.quiet k false ≡ gives_quiet all k) → (k : ℕ) → slice_index_or marks k false ≡ given_quiet g all k) → assumed_of (record a { quiet = marks }) ≡ assumed g all
+given_at_last g all given i a marks e s sources =
+    let f : GivenSoFar all [] (assumed_of a) = subst (λ (xs : List Given). GivenSoFar all xs (assumed_of a)) e s in
     λ n. record {
       possible = λ j b. (sym (and_true ((assumed_of a).possible j b)) ∙ f.possible j b) n;
       quiet = λ k. sources (λ j. sym (or_false (slice_index_or a.quiet j false)) ∙ f.quiet j) k n;
-      cut = λ t x. f.cut t x n;
+      left = λ t x. f.left t x n;
       ended = λ t x. (sym (and_true ((assumed_of a).ended t x)) ∙ f.ended t x) n;
       sure = λ j. (sym (or_false ((assumed_of a).sure j)) ∙ f.sure j) n;
-      wide = f.rules n;
     }

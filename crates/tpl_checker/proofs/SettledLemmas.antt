@@ -4,7 +4,7 @@ use Rattle.tpl_model.proofs.Truths.{and_true}
 use Rattle.tpl_model.specs.declared.ids.TaskId.{TaskId}
 use Rattle.tpl_model.specs.Members.{mem}
 use Rattle.tpl_model.specs.Graph.{some_in}
-use Rattle.tpl_model.specs.Certificate.{Row, row, Assumed, may_win}
+use Rattle.tpl_model.specs.Certificate.{Row, row, Assumed}
 use Rattle.tpl_draft.specs.Ids.{task_number}
 use Rattle.tpl_laws.specs.RowTests.{all_in, implies}
 use Rattle.tpl_graph.specs.Roles.{AreTasks}
@@ -19,14 +19,10 @@ pub record AfterSome (rows : List Row) (tasks : List TaskId) (i : ℕ) (settled 
   pub left : AreTasks (length rows) (drop i tasks)
   pub members : (x : ℕ) → (mem x settled || some_in (after rows x) (map task_number (drop i tasks))) ≡ some_in (after rows x) (map task_number tasks)
 
--- x is y or past it, if y may win
-abbrev pub after_win : Assumed → List Row → ℕ → ℕ → Bool
-after_win l rows x y = implies (may_win l rows y) (after rows x y)
-
--- of the set what is after each of them that may win
-pub record AfterEach (l : Assumed) (rows : List Row) (tasks : List TaskId) (set : List ℕ) (i : ℕ) (settled : List ℕ) : Type 0 where
+-- of the set what is after each of the first i tasks
+pub record AfterEach (rows : List Row) (tasks : List TaskId) (set : List ℕ) (i : ℕ) (settled : List ℕ) : Type 0 where
   pub left : AreTasks (length rows) (drop i tasks)
-  pub members : (x : ℕ) → (mem x settled && all_in (after_win l rows x) (map task_number (drop i tasks))) ≡ (mem x set && all_in (after_win l rows x) (map task_number tasks))
+  pub members : (x : ℕ) → (mem x settled && all_in (after rows x) (map task_number (drop i tasks))) ≡ (mem x set && all_in (after rows x) (map task_number tasks))
 
 pub some_step : (rows : List Row) (tasks : List TaskId) (i : ℕ) (settled next : List ℕ) (d : TaskId) → i < length tasks → AfterSome rows tasks i settled → ((x : ℕ) → mem x next ≡ (mem x settled || after rows x (slice_index_or tasks i d).0)) → AfterSome rows tasks (i + 1) next
 some_step rows tasks i settled next d lt s h = record {
@@ -34,15 +30,8 @@ some_step rows tasks i settled next d lt s h = record {
   members = λ x. ap (λ z. z || some_in (after rows x) (map task_number (drop (i + 1) tasks))) (h x) ∙ (some_more tasks i d lt (after rows x) (mem x settled) ∙ s.members x);
 }
 
-pub each_step : (l : Assumed) (rows : List Row) (tasks : List TaskId) (set : List ℕ) (i : ℕ) (settled next : List ℕ) (d : TaskId) → i < length tasks → AfterEach l rows tasks set i settled → ((x : ℕ) → mem x next ≡ (mem x settled && after_win l rows x (slice_index_or tasks i d).0)) → AfterEach l rows tasks set (i + 1) next
-each_step l rows tasks set i settled next d lt s h = record {
+pub each_step : (rows : List Row) (tasks : List TaskId) (set : List ℕ) (i : ℕ) (settled next : List ℕ) (d : TaskId) → i < length tasks → AfterEach rows tasks set i settled → ((x : ℕ) → mem x next ≡ (mem x settled && after rows x (slice_index_or tasks i d).0)) → AfterEach rows tasks set (i + 1) next
+each_step rows tasks set i settled next d lt s h = record {
   left = tasks_left tasks i d lt (length rows) s.left;
-  members = λ x. ap (λ z. z && all_in (after_win l rows x) (map task_number (drop (i + 1) tasks))) (h x) ∙ (all_more tasks i d lt (after_win l rows x) (mem x settled) ∙ s.members x);
+  members = λ x. ap (λ z. z && all_in (after rows x) (map task_number (drop (i + 1) tasks))) (h x) ∙ (all_more tasks i d lt (after rows x) (mem x settled) ∙ s.members x);
 }
-
--- a task that may win, and one that can't
-pub may_win_step : (l : Assumed) (rows : List Row) (settled next : List ℕ) (y : ℕ) → may_win l rows y ≡ true → ((x : ℕ) → mem x next ≡ (mem x settled && after rows x y)) → (x : ℕ) → mem x next ≡ (mem x settled && after_win l rows x y)
-may_win_step l rows settled next y wins h x = h x ∙ ap (λ z. mem x settled && implies z (after rows x y)) (sym wins)
-
-pub no_win_step : (l : Assumed) (rows : List Row) (settled : List ℕ) (y : ℕ) → may_win l rows y ≡ false → (x : ℕ) → mem x settled ≡ (mem x settled && after_win l rows x y)
-no_win_step l rows settled y loses x = sym (and_true (mem x settled)) ∙ ap (λ z. mem x settled && implies z (after rows x y)) (sym loses)

@@ -1,4 +1,5 @@
 -- Leaf by leaf, and claim by claim.
+use Rattle.tpl_model.specs.declared.rule_set.RuleSet.TheVariants.{Narrow}
 use Rattle.std.proofs.Common.{◌≡◌, ℕ, zero, suc, ◌+◌, ◌<◌, ◌≤◌, ◌&&◌, Bool, true, Option, Some, None, Result, Ok, Err, List, [], ◌∷◌, drop, length, refl, sym, ap, ◌∙◌, slice_index_or, nat_lt, inl, inr, arith}
 use Rattle.std.specs.Prelude.{IfOk}
 use Rattle.std.proofs.lemmas.Bool.{cases_lt, ltb-true, and_parts}
@@ -47,11 +48,11 @@ pub record FindsFaults {T : Type 0} (fault_of : ℕ → Claim → T → Option C
   pub next : (n : ℕ) (c : Claim) (cs : List Claim) (t : T) (ts : List T) → fault_from n (c ∷ cs) (t ∷ ts) ≡ or_else (fault_of n c t) (fault_from (suc n) cs ts)
 
 -- the fault of a tree of the n-th claim
-abbrev pub fault_of_claim : Bool → TaskGraph → ℕ → Claim → Tree → Option CertFault
-fault_of_claim wide g n c t = tree_fault g c.body n (assumed_for wide g c) 1 t
+abbrev pub fault_of_claim : TaskGraph → ℕ → Claim → Tree → Option CertFault
+fault_of_claim g n c t = tree_fault g c.body n (assumed_for Narrow g c) 1 t
 
-pub finds_faults : (wide : Bool) (g : TaskGraph) → FindsFaults (fault_of_claim wide g) (claims_fault wide g)
-finds_faults wide g = record { none = λ n ts. refl; next = λ n c cs t ts. refl }
+pub finds_faults : (g : TaskGraph) → FindsFaults (fault_of_claim g) (claims_fault g)
+finds_faults g = record { none = λ n ts. refl; next = λ n c cs t ts. refl }
 
 -- the first i claims are proved, and the others have trees that fit
 pub record ClaimsSoFar {T : Type 0} (misfit_from fault_from : ℕ → List Claim → List T → Option CertFault) (claims : List Claim) (trees : List T) (i : ℕ) : Type 0 where

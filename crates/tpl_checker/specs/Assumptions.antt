@@ -7,9 +7,9 @@ use Rattle.tpl_model.specs.declared.view.Possible.{Possible}
 use Rattle.tpl_model.specs.View.{may_have}
 use Rattle.tpl_model.specs.declared.claim.Given.{Given}
 use Rattle.tpl_model.specs.declared.claim.Given.TheVariants.{Input, Quiet, Ended, Succeeds}
-use Rattle.tpl_model.specs.Certificate.{Assumed, with_input, is_wide}
+use Rattle.tpl_model.specs.Certificate.{Assumed, with_input}
 use Rattle.tpl_checker.specs.declared.assumptions.Assumptions.{Assumptions}
-use Rattle.tpl_checker.specs.Cut.{left_by}
+use Rattle.tpl_checker.specs.Left.{left_by}
 
 -- the values of an input past the last entry: both
 abbrev pub both : Possible
@@ -21,19 +21,18 @@ abbrev pub assumed_of : Assumptions → Assumed
 assumed_of a = record {
   possible = λ i value. may_have (slice_index_or a.inputs i both) value;
   quiet = λ k. slice_index_or a.quiet k false;
-  cut = left_by a.cut;
+  left = left_by a.left;
   ended = left_by a.ended;
   sure = λ site. slice_index_or a.sure site false;
-  wide = is_wide a.rules;
 }
 
 -- what is assumed where nothing is
-abbrev pub nothing_assumed : Bool → Assumed
-nothing_assumed wide = record { possible = λ i value. true; quiet = λ k. false; cut = λ t f. true; ended = λ t f. true; sure = λ site. false; wide = wide }
+abbrev pub nothing_assumed : Assumed
+nothing_assumed = record { possible = λ i value. true; quiet = λ k. false; left = λ t f. true; ended = λ t f. true; sure = λ site. false }
 
 -- what is assumed where, besides, the token is never requested
 abbrev pub with_quiet : Assumed → ℕ → Assumed
-with_quiet l k = record { possible = l.possible; quiet = λ j. nat_eq j k || l.quiet j; cut = l.cut; ended = l.ended; sure = l.sure; wide = l.wide }
+with_quiet l k = record { possible = l.possible; quiet = λ j. nat_eq j k || l.quiet j; left = l.left; ended = l.ended; sure = l.sure }
 
 -- what is assumed where, besides, a token, if there is one, is never requested
 abbrev pub with_own : Assumed → Option ℕ → Assumed
@@ -45,10 +44,9 @@ abbrev pub with_kept : Assumed → ℕ → Finals → Assumed
 with_kept l s ends = record {
   possible = l.possible;
   quiet = l.quiet;
-  cut = λ t f. l.cut t f && (not (nat_eq s t) || has ends f);
+  left = λ t f. l.left t f && (not (nat_eq s t) || has ends f);
   ended = l.ended;
   sure = l.sure;
-  wide = l.wide;
 }
 
 -- what is assumed where, besides, a task is given to end in one of these ways
@@ -56,15 +54,14 @@ abbrev pub with_ended : Assumed → ℕ → Finals → Assumed
 with_ended l s ends = record {
   possible = l.possible;
   quiet = l.quiet;
-  cut = l.cut;
+  left = l.left;
   ended = λ t f. l.ended t f && (not (nat_eq s t) || has ends f);
   sure = l.sure;
-  wide = l.wide;
 }
 
 -- what is assumed where, besides, the job of a site doesn't fail
 abbrev pub with_sure : Assumed → ℕ → Assumed
-with_sure l s = record { possible = l.possible; quiet = l.quiet; cut = l.cut; ended = l.ended; sure = λ site. nat_eq site s || l.sure site; wide = l.wide }
+with_sure l s = record { possible = l.possible; quiet = l.quiet; left = l.left; ended = l.ended; sure = λ site. nat_eq site s || l.sure site }
 
 -- what is assumed where, besides, this is given
 abbrev pub with_given : Assumed → Given → Assumed

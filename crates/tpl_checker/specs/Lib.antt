@@ -1,6 +1,6 @@
 pub mod Assumptions
 pub mod Below
-pub mod Cut
+pub mod Left
 pub mod Bodies
 pub mod Last
 pub mod Leaves

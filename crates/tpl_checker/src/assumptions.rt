@@ -3,13 +3,13 @@
 ghost use Rattle.std.specs.Prelude.{◌≡◌, ◌<◌, ◌&&◌, Bool, true, option_map};
 ghost use Rattle.tpl_checker.specs.Prelude.{assumed_of, nothing_assumed, with_ended, with_kept, with_quiet, with_sure};
 ghost use Rattle.tpl_draft.specs.Prelude.{token_number};
-ghost use Rattle.tpl_model.specs.Prelude.{end_left, has, is_final, is_loud, is_task, is_wide, known, may_have, same, with_end, with_input};
+ghost use Rattle.tpl_model.specs.Prelude.{end_left, has, is_final, is_loud, is_task, known, may_have, same, with_end, with_input};
 
-use crate::cut::Cut;
+use crate::left::Left;
 use tpl_graph::Graph;
 use tpl_model::{
-    Final, Finals, InputId, MOST_INPUTS, MOST_SITES, MOST_TASKS, MOST_TOKENS, Possible, RuleSet,
-    SiteId, TaskId, TokenId, View,
+    Final, Finals, InputId, MOST_INPUTS, MOST_SITES, MOST_TASKS, MOST_TOKENS, Possible, SiteId,
+    TaskId, TokenId, View,
 };
 
 /// The one of these values that is `value`, if it is among them.
@@ -33,23 +33,22 @@ fn only(status: Final) -> Finals
     }
 }
 
-/// What a leaf assumes: the values that each input may have, the tokens that are never requested, how
-/// tasks don't end by its splits and how by what is given, the sites whose jobs don't fail, and by
-/// which rules it is judged. It is 1,089 bytes long.
+/// What a leaf assumes: the values that each input may have, the tokens that are never requested, the
+/// ends that its splits leave to tasks and those that what is given does, and the sites whose jobs don't
+/// fail. It is 1,088 bytes long.
 #[derive(Drop)]
 pub struct Assumptions {
     pub(crate) inputs: [Possible; MOST_INPUTS],
     pub(crate) quiet: [bool; MOST_TOKENS],
-    pub(crate) cut: Cut,
-    pub(crate) ended: Cut,
+    pub(crate) left: Left,
+    pub(crate) ended: Left,
     pub(crate) sure: [bool; MOST_SITES],
-    pub(crate) rules: RuleSet,
 }
 
 impl Assumptions {
     /// Nothing is assumed.
-    pub(crate) fn none(rules: RuleSet) -> Assumptions
-        ensures { assumed_of result ≡ nothing_assumed (is_wide rules) }
+    pub(crate) fn none() -> Assumptions
+        ensures { assumed_of result ≡ nothing_assumed }
     {
         Assumptions {
             inputs: [Possible {
@@ -57,10 +56,9 @@ impl Assumptions {
                 on_false: true,
             }; MOST_INPUTS],
             quiet: [false; MOST_TOKENS],
-            cut: Cut::none(),
-            ended: Cut::none(),
+            left: Left::all(),
+            ended: Left::all(),
             sure: [false; MOST_SITES],
-            rules,
         }
     }
 
@@ -71,10 +69,9 @@ impl Assumptions {
         Assumptions {
             inputs: self.inputs,
             quiet: self.quiet,
-            cut: self.cut.copy(),
+            left: self.left.copy(),
             ended: self.ended.copy(),
             sure: self.sure,
-            rules: self.rules,
         }
     }
 
@@ -114,7 +111,7 @@ impl Assumptions {
         requires { task.0 < MOST_TASKS }
         ensures { assumed_of self.new ≡ with_end (assumed_of self.old) task.0 status }
     {
-        self.cut = self.cut.keeping(task, only(status));
+        self.left = self.left.keeping(task, only(status));
     }
 
     /// Assumes besides that the task, one of the first `MOST_TASKS`, ends in one of these ways if it ends.
@@ -122,7 +119,7 @@ impl Assumptions {
         requires { task.0 < MOST_TASKS }
         ensures { assumed_of self.new ≡ with_kept (assumed_of self.old) task.0 ends }
     {
-        self.cut = self.cut.keeping(task, ends);
+        self.left = self.left.keeping(task, ends);
     }
 
     /// The assumptions, and that the task, one of the first `MOST_TASKS`, is given to end in one of these ways if
@@ -150,24 +147,14 @@ impl Assumptions {
     pub fn may_end(&self, task: TaskId, status: Final) -> bool
         ensures { result ≡ end_left (assumed_of self.now) task.0 status }
     {
-        self.cut.leaves(task, status) && self.ended.leaves(task, status)
+        self.left.leaves(task, status) && self.ended.leaves(task, status)
     }
 
     /// The splits alone, whatever is given, leave the task this end.
     pub fn is_left(&self, task: TaskId, status: Final) -> bool
-        ensures { result ≡ (assumed_of self.now).cut task.0 status }
+        ensures { result ≡ (assumed_of self.now).left task.0 status }
     {
-        self.cut.leaves(task, status)
-    }
-
-    /// The wider rules are taken.
-    pub fn is_wide(&self) -> bool
-        ensures { result ≡ (assumed_of self.now).wide }
-    {
-        match self.rules {
-            RuleSet::Narrow => false,
-            RuleSet::Wide => true,
-        }
+        self.left.leaves(task, status)
     }
 
     /// The token is never requested.

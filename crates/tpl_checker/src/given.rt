@@ -5,7 +5,7 @@ ghost use Rattle.tpl_checker.specs.Prelude.{AllTokens, assumed_of, nothing_assum
 ghost use Rattle.tpl_draft.specs.Prelude.{token_number};
 ghost use Rattle.tpl_graph.specs.Prelude.{AreGivenOf, Fits, IsGivenOf, TasksOf};
 ghost use Rattle.tpl_laws.specs.Prelude.{gives_quiet};
-ghost use Rattle.tpl_model.specs.Prelude.{as_quiet, assumed, assumed_for, given_quiet, is_task, is_wide, mem, own_quiet, task};
+ghost use Rattle.tpl_model.specs.Prelude.{as_quiet, assumed, assumed_for, given_quiet, is_task, mem, own_quiet, task};
 ghost use Rattle.tpl_model.specs.declared.claim.Given.{Given};
 ghost use Rattle.tpl_model.specs.declared.claim.Property.TheVariants.{Excludes};
 
@@ -17,22 +17,22 @@ use tpl_model::{Given, MOST_TOKENS, Property, RuleSet, TaskId, TokenId};
 /// wide ones for a claim about a beginning that the own token of the task that begins isn't requested.
 pub fn assumed_for(graph: &Graph, claim: &Claim, rules: RuleSet) -> Assumptions
     requires { Fits graph.now.graph claim.now }
-    ensures { assumed_of result ≡ assumed_for (is_wide rules) graph.now.graph claim.now }
+    ensures { assumed_of result ≡ assumed_for rules graph.now.graph claim.now }
 {
     let own = match rules {
         RuleSet::Narrow => None,
         RuleSet::Wide => own_quiet(graph, claim.body()),
     };
-    assumed_with(graph, own, claim.given(), rules)
+    assumed_with(graph, own, claim.given())
 }
 
 /// What is assumed where this is given: the values of its inputs, that its tokens, their sources, and
 /// theirs, are never requested, how its tasks end, and that its jobs don't fail.
-pub fn assumed(graph: &Graph, given: &[Given], rules: RuleSet) -> Assumptions
+pub fn assumed(graph: &Graph, given: &[Given]) -> Assumptions
     requires { AreGivenOf graph.now.graph given.now }
-    ensures { assumed_of result ≡ assumed (is_wide rules) graph.now.graph given.now }
+    ensures { assumed_of result ≡ assumed graph.now.graph given.now }
 {
-    assumed_with(graph, None, given, rules)
+    assumed_with(graph, None, given)
 }
 
 /// The own token of the task that a claim says to begin, or not to; of two only if it is that of both.
@@ -73,13 +73,13 @@ fn common_token(graph: &Graph, one: TaskId, other: TaskId) -> Option<TokenId>
 }
 
 /// What is assumed where this is given, and this token too.
-fn assumed_with(graph: &Graph, own: Option<TokenId>, given: &[Given], rules: RuleSet) -> Assumptions
+fn assumed_with(graph: &Graph, own: Option<TokenId>, given: &[Given]) -> Assumptions
     requires given { AreGivenOf graph.now.graph given.now }
     requires own { IfSome own (λ k. k.0 < MOST_TOKENS) }
-    ensures { assumed_of result ≡ assumed (is_wide rules) graph.now.graph
+    ensures { assumed_of result ≡ assumed graph.now.graph
         (as_quiet (option_map token_number own) ++ given.now) }
 {
-    let mut assumed = with_own(own, rules);
+    let mut assumed = with_own(own);
     for one in given {
         assumed = with_given(graph, &assumed, *one);
     }
@@ -88,12 +88,11 @@ fn assumed_with(graph: &Graph, own: Option<TokenId>, given: &[Given], rules: Rul
 }
 
 /// What is assumed where this token is never requested.
-fn with_own(own: Option<TokenId>, rules: RuleSet) -> Assumptions
+fn with_own(own: Option<TokenId>) -> Assumptions
     requires { IfSome own (λ k. k.0 < MOST_TOKENS) }
-    ensures { assumed_of result
-        ≡ with_own (nothing_assumed (is_wide rules)) (option_map token_number own) }
+    ensures { assumed_of result ≡ with_own nothing_assumed (option_map token_number own) }
 {
-    let none = Assumptions::none(rules);
+    let none = Assumptions::none();
     match own {
         None => none,
         Some(token) => none.with_quiet(token),

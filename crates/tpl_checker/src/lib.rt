@@ -1,4 +1,16 @@
 //! The check of a certificate against the rules for its leaves.
+//!
+//! ## Choices
+//!
+//! - **`check` names Shape for the least claim over its three causes**; surplus trees make it the number of claims
+//!   plus one.
+//! - **How tasks end by the splits and by what is given are kept apart in what a leaf assumes**, though the rules ask
+//!   for both: of an end that is given a run may still be bound for another.
+//! - **The check keeps how the bodies of the last leaf that it read may end**, and reads bodies again only where one
+//!   of them sees something else: another value of an input, another quiet token, or a subject that may end
+//!   otherwise. So many claims over the same bodies walk them once. One leaf is kept, in sets of fixed size, so that
+//!   the check still takes no memory; that the same views give the same sets is a lemma, and no clause changed for
+//!   it.
 #![tactic(auto)]
 
 mod all_ends;
@@ -8,11 +20,11 @@ mod begins;
 mod below;
 mod bodies;
 mod chain;
-mod cut;
 mod ends;
 mod given;
 mod last;
 mod leaf;
+mod left;
 mod parents;
 mod past;
 mod property;

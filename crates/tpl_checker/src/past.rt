@@ -4,13 +4,13 @@ ghost use Rattle.std.specs.Prelude.{◌≡◌, ◌&&◌, ◌||◌, ◌<◌, ◌�
 ghost use Rattle.tpl_checker.specs.Prelude.{AreBelow, assumed_of};
 ghost use Rattle.tpl_draft.specs.Prelude.{task_number};
 ghost use Rattle.tpl_graph.specs.Prelude.{AreTasks};
-ghost use Rattle.tpl_laws.specs.Prelude.{all_in, implies, past, past_by};
-ghost use Rattle.tpl_model.specs.Prelude.{Assumed, Child, Continues, is_task, may_end_early, may_win, mem, row, some_in};
+ghost use Rattle.tpl_laws.specs.Prelude.{all_in, past, past_by};
+ghost use Rattle.tpl_model.specs.Prelude.{Assumed, Child, Continues, is_task, may_end_early, mem, row, some_in};
 
 use crate::assumptions::Assumptions;
 use crate::below::Below;
 use crate::parents::parent;
-use crate::rows::{before_of, may_end, past_of, row, settled_after, within};
+use crate::rows::{before_of, past_of, row, settled_after, within};
 use tpl_graph::{Graph, Role};
 use tpl_model::{MOST_TASKS, TaskId, TaskSet};
 use tpl_trees::Row;
@@ -38,7 +38,7 @@ pub(crate) fn past(
             is_past_continuation(graph, assumed, below, rows, task, antecedent)
         }
         Role::All(args) => within(past, &settled_after_some(rows, args)),
-        Role::Any(args) => within(past, &settled_after_each(assumed, rows, args, past)),
+        Role::Any(args) => within(past, &settled_after_each(rows, args, past)),
     }
 }
 
@@ -111,34 +111,16 @@ fn settled_after_some(rows: &[Row], tasks: &[TaskId]) -> TaskSet
     settled
 }
 
-/// Of the set, those that are settled after each of the tasks that may win, since WhenAny may end after any
-/// one of these.
-fn settled_after_each(
-    assumed: &Assumptions,
-    rows: &[Row],
-    tasks: &[TaskId],
-    set: &TaskSet,
-) -> TaskSet
+/// Of the set, those that are settled after each of the tasks, since WhenAny may end after any one of them.
+fn settled_after_each(rows: &[Row], tasks: &[TaskId], set: &TaskSet) -> TaskSet
     requires tasks { AreTasks (length rows.now) tasks.now }
     requires limit { length rows.now ≤ MOST_TASKS }
-    ensures { (x : ℕ) → mem x result ≡ (mem x set.now && all_in
-        (λ y. implies (may_win (assumed_of assumed.now) rows.now y)
-        (nat_eq x y || mem x (row rows.now y).past)) (map task_number tasks.now)) }
+    ensures { (x : ℕ) → mem x result ≡ (mem x set.now && all_in (λ y. nat_eq x y
+        || mem x (row rows.now y).past) (map task_number tasks.now)) }
 {
     let mut settled = set.copy();
     for task in tasks {
-        if may_win(assumed, rows, *task) {
-            settled = settled.intersection(&settled_after(rows, *task));
-        }
+        settled = settled.intersection(&settled_after(rows, *task));
     }
     settled
-}
-
-/// The task may end first of those for which a WhenAny task waits: by the wide rules one that can't end
-/// can't.
-fn may_win(assumed: &Assumptions, rows: &[Row], task: TaskId) -> bool
-    requires { task.0 < length rows.now }
-    ensures { result ≡ may_win (assumed_of assumed.now) rows.now task.0 }
-{
-    !assumed.is_wide() || may_end(rows, task)
 }

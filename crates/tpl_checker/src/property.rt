@@ -53,8 +53,7 @@ pub fn ends_only_in(ends: Finals, allowed: Finals) -> bool
     ran && canceled && faulted
 }
 
-/// The task's exception has a chain to a reader, or its body can't throw one, or by the wide rules no run
-/// is complete.
+/// The task's exception has a chain to a reader, or its body can't throw one.
 fn is_observed(
     graph: &Graph,
     assumed: &Assumptions,
@@ -71,7 +70,7 @@ fn is_observed(
     let faulted = row(rows, task).ends().faulted;
     let runs = row(rows, task).runs();
     let throws = bodies.thrown.contains(task);
-    has_chain || !faulted || !runs || !throws || assumed.is_wide() && none_complete(graph, rows)
+    has_chain || !faulted || !runs || !throws
 }
 
 /// The task has begun in each complete run: it is a root or a continuation that isn't canceled, or no

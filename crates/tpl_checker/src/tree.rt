@@ -16,7 +16,6 @@ use tpl_trees::{Node, Row, Tree};
 
 /// The first leaf of the tree that fails, of which the first has the number `first`. Where none
 /// does, the number after the last one.
-
 pub(crate) fn tree_fault<'c>(
     graph: &Graph,
     property: Property,

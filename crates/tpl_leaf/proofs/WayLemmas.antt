@@ -80,6 +80,6 @@ module _ (holds : Fact → Way → Bool) (r : Ways) where
   some_paths b o way e known q w =
       subst (λ (z : Option Knowledge). AreWays (λ (test : Way → Bool). implies b (if_known z (λ k. test (way k)))) holds r) q (is_left b (λ (test : Way → Bool). test (way known)) e w)
 
--- what holds by one of four
-pub or_four : (a b x y ab abx all : Bool) → ab ≡ (a || b) → abx ≡ (ab || x) → all ≡ (abx || y) → (a || (b || (x || y))) ≡ all
-or_four a b x y ab abx all p q r = grind arith
+-- what holds by one of three
+pub or_three : (a b x ab all : Bool) → ab ≡ (a || b) → all ≡ (ab || x) → (a || (b || x)) ≡ all
+or_three a b x ab all p q = grind arith

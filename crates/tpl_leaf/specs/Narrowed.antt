@@ -8,11 +8,11 @@ use Rattle.tpl_checker.specs.Assumptions.{with_kept}
 
 -- where the ends that are left are narrowed by t
 abbrev pub narrowed_once : TaskGraph → Assumed → ℕ → Assumed
-narrowed_once g a t = record a { cut = narrowed_by g t (kind g t) a.cut }
+narrowed_once g a t = record a { left = narrowed_by g t (kind g t) a.left }
 
 -- where they are by the first n tasks, from the last of them to the first
 abbrev pub narrowed_before : TaskGraph → Assumed → ℕ → Assumed
-narrowed_before g a n = record a { cut = narrowed_from g n a.cut }
+narrowed_before g a n = record a { left = narrowed_from g n a.left }
 
 -- where each of the tasks ends in one of these ways
 abbrev pub with_all_kept : Assumed → List ℕ → Finals → Assumed

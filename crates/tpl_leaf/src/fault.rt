@@ -35,8 +35,8 @@ pub fn leaf_fault(leaf: &Leaf<'_>, property: Property) -> Option<LeafFault>
     None
 }
 
-/// The first task whose row breaks a rule.
-fn first_broken(leaf: &Leaf<'_>) -> Option<LeafFault>
+/// The first task whose row breaks a rule. It doesn't depend on what the leaf is to prove.
+pub fn first_broken(leaf: &Leaf<'_>) -> Option<LeafFault>
     requires leaf { IsLeaf leaf.now }
     requires ids { IsTrue (rows_fit (graph_of leaf.now) (plain (rows_in leaf.now))) }
     ensures { fault_in result ≡ wide_first_broken (graph_of leaf.now) (assumed_in leaf.now)

@@ -55,7 +55,7 @@ fn narrow_by(graph: &Graph, assumed: &mut Assumptions, task: TaskId)
 
 /// How the arguments of a WhenAll task may end, by what is left to it.
 fn kept(assumed: &Assumptions, task: TaskId) -> Finals
-    ensures { (f : Final) → has result f ≡ keeps ((assumed_of assumed.now).cut task.0) f }
+    ensures { (f : Final) → has result f ≡ keeps ((assumed_of assumed.now).left task.0) f }
 {
     let faulted = assumed.is_left(task, Final::Faulted);
     Finals {

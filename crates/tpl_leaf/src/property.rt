@@ -12,7 +12,7 @@ use tpl_checker::{begins_itself, ends_only_in, has_to_end};
 use tpl_model::{Property, TaskId};
 
 /// The rows of a closed leaf prove the claim's property.
-pub(crate) fn proves(leaf: &Leaf<'_>, property: Property) -> bool
+pub fn proves(leaf: &Leaf<'_>, property: Property) -> bool
     requires leaf { IsLeaf leaf.now }
     requires tasks { TasksOf (graph_of leaf.now) property }
     ensures { result ≡ wide_proves (graph_of leaf.now) (assumed_in leaf.now) (rows_in leaf.now)

@@ -66,7 +66,7 @@ fn body_way(leaf: &Leaf<'_>, task: TaskId, status: Final, begun: &Facts) -> Ways
     }
     match leaf.known_at_end(task, status) {
         None => Ways::none(),
-        Some(known) => Ways::one(status, with_known(begun, &known).union(&known.later)),
+        Some(known) => Ways::one(status, begun.union(&known.later)),
     }
 }
 

@@ -7,3 +7,4 @@ pub mod LeastFits
 pub mod StepLemmas
 pub mod ReaderLemmas
 pub mod LevelLemmas
+pub mod UnsplitLemmas

@@ -5,4 +5,5 @@ pub mod Within
 pub mod Case
 pub mod Steps
 pub mod Levels
+pub mod Unsplit
 pub mod Prelude

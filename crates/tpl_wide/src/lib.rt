@@ -13,6 +13,7 @@ mod rows;
 mod shape;
 mod shortest;
 mod tree;
+mod unsplit;
 mod verdict;
 mod within;
 
@@ -21,4 +22,5 @@ pub use check::Check;
 pub use error::WideFault;
 pub use tpl_leaf::{WinnerSplit, links};
 pub use tree::with_split;
+pub use unsplit::Unsplit;
 pub use verdict::check_wide;

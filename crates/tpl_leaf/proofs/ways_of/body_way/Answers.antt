@@ -4,7 +4,7 @@ use Rattle.tpl_model.specs.WiderRules.{ByBody}
 use Rattle.tpl_paths.specs.Knowledge.{knowledge_of}
 use Rattle.tpl_leaf.specs.Leaf.{graph_of}
 use Rattle.tpl_leaf.specs.LeafRules.{holds_as}
-use Rattle.tpl_leaf.proofs.WayLemmas.{no_paths, not_left, some_paths, or_four}
+use Rattle.tpl_leaf.proofs.WayLemmas.{no_paths, not_left, some_paths, or_three}
 use Rattle.tpl_leaf.proofs.ways_of.body_way.Goals as goal
 
 pub returns-then-not-may_end : goal.returns-then-not-may_end
@@ -18,4 +18,4 @@ returns-in-Some c =
     let holds = holds_as c.args.leaf.now c.args.task.0 (kind (graph_of c.args.leaf.now) c.args.task.0) in
     let way = ByBody c.args.status (knowledge_of c.in-Some.known) in
     some_paths holds c.one.result _ _ (ByBody c.args.status) (sym c.may_end.ensures ∙ c.if-not-may_end.false) (knowledge_of c.in-Some.known) c.in-Some.ensures
-    (c.one.ensures holds way refl (λ fact. or_four _ _ _ _ _ _ _ (c.requires.begun fact) (c.with_known.ensures fact) (c.union.ensures fact)))
+    (c.one.ensures holds way refl (λ fact. or_three _ _ _ _ _ (c.requires.begun fact) (c.union.ensures fact)))
