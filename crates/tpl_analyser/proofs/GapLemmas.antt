@@ -19,7 +19,7 @@ use Rattle.tpl_analyser.specs.Slim.{IsOfForm, IsCertificateOf}
 
 -- trees for the first i claims
 pub record FoundSoFar (g : TaskGraph) (claims : List Claim) (form : Form) (depth i : ℕ) (trees : List Tree) : Type 0 where
-  pub accepted : Accepts false g (take i claims) trees
+  pub accepted : Accepts g (take i claims) trees
   pub splits : All (λ tree. height tree ≤ depth) trees
   pub limits : All IsWithinLimits trees
   pub of_form : IsCertificateOf form (take i claims) trees
@@ -27,7 +27,7 @@ pub record FoundSoFar (g : TaskGraph) (claims : List Claim) (form : Form) (depth
 pub none_found : (g : TaskGraph) (claims : List Claim) (form : Form) (depth : ℕ) → FoundSoFar g claims form depth 0 []
 none_found g claims form depth = record { accepted = tt; splits = All-nil (λ (tree : Tree). height tree ≤ depth); limits = All-nil IsWithinLimits; of_form = tt }
 
-accepts_more : (g : TaskGraph) (claims : List Claim) (trees : List Tree) (claim : Claim) (tree : Tree) → Accepts false g claims trees → AcceptsTree g claim.body (assumed_for false g claim) tree → Accepts false g (claims ++ claim ∷ []) (trees ++ tree ∷ [])
+accepts_more : (g : TaskGraph) (claims : List Claim) (trees : List Tree) (claim : Claim) (tree : Tree) → Accepts g claims trees → AcceptsTree g claim.body (assumed_for Narrow g claim) tree → Accepts g (claims ++ claim ∷ []) (trees ++ tree ∷ [])
 accepts_more g [] [] claim tree a h = (h, tt)
 accepts_more g [] (t ∷ trees) claim tree a h = absurd a
 accepts_more g (c ∷ claims) [] claim tree a h = absurd a
@@ -40,9 +40,9 @@ forms_more form (c ∷ claims) [] claim tree a h = absurd a
 forms_more form (c ∷ claims) (t ∷ trees) claim tree a h = (a.0, forms_more form claims trees claim tree a.1 h)
 
 module _ (g : TaskGraph) (claims : List Claim) (form : Form) (depth i : ℕ) (trees : List Tree) (d : Claim) (lt : i < length claims) (so_far : FoundSoFar g claims form depth i trees) where
-  pub one_more : (tree : Tree) → depth ≤ 6 → IsFound g (slice_index_or claims i d).body form (assumed_for false g (slice_index_or claims i d)) depth tree → FoundSoFar g claims form depth (i + 1) (trees ++ tree ∷ [])
+  pub one_more : (tree : Tree) → depth ≤ 6 → IsFound g (slice_index_or claims i d).body form (assumed_for Narrow g (slice_index_or claims i d)) depth tree → FoundSoFar g claims form depth (i + 1) (trees ++ tree ∷ [])
   one_more tree le found = record {
-    accepted = subst (λ (cs : List Claim). Accepts false g cs (trees ++ tree ∷ [])) (sym (take_more claims i d lt)) (accepts_more g (take i claims) trees (slice_index_or claims i d) tree so_far.accepted found.accepted);
+    accepted = subst (λ (cs : List Claim). Accepts g cs (trees ++ tree ∷ [])) (sym (take_more claims i d lt)) (accepts_more g (take i claims) trees (slice_index_or claims i d) tree so_far.accepted found.accepted);
     splits = All-push (λ (t : Tree). height t ≤ depth) trees tree so_far.splits found.splits;
     limits = All-push IsWithinLimits trees tree so_far.limits (omega arith, found.chains);
     of_form = subst (λ (cs : List Claim). IsCertificateOf form cs (trees ++ tree ∷ [])) (sym (take_more claims i d lt)) (forms_more form (take i claims) trees (slice_index_or claims i d) tree so_far.of_form found.of_form);
@@ -60,8 +60,8 @@ module _ (g : TaskGraph) (claims : List Claim) (form : Form) (depth i : ℕ) (tr
     splits = All-map (λ (t : WideTree). wide_height t ≤ depth) as_wide_tree trees (λ k t lt. subst (λ n. n ≤ depth) (sym (same_height (get_or trees k t))) (so_far.splits k t lt));
   }
 
-pub all_found : (g : TaskGraph) (claims : List Claim) (form : Form) (depth i : ℕ) (trees : List Tree) → length claims ≤ i → FoundSoFar g claims form depth i trees → Accepts false g claims trees
-all_found g claims form depth i trees le so_far = subst (λ (cs : List Claim). Accepts false g cs trees) (take_all i claims le) so_far.accepted
+pub all_found : (g : TaskGraph) (claims : List Claim) (form : Form) (depth i : ℕ) (trees : List Tree) → length claims ≤ i → FoundSoFar g claims form depth i trees → Accepts g claims trees
+all_found g claims form depth i trees le so_far = subst (λ (cs : List Claim). Accepts g cs trees) (take_all i claims le) so_far.accepted
 
 pub all_of_form : (g : TaskGraph) (claims : List Claim) (form : Form) (depth i : ℕ) (trees : List Tree) → length claims ≤ i → FoundSoFar g claims form depth i trees → IsCertificateOf form claims trees
 all_of_form g claims form depth i trees le so_far = subst (λ (cs : List Claim). IsCertificateOf form cs trees) (take_all i claims le) so_far.of_form

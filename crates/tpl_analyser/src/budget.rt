@@ -6,6 +6,8 @@ use crate::watch::Watch;
 /// How many leaves are tried for one claim at most.
 #[derive(Clone, Copy, Debug, PartialEq, Eq)]
 pub struct Leaves {
+    /// Before all others: without a split, and with one on how a task near to the claim's ends.
+    pub near: u32,
     /// In the order of the search.
     pub in_order: u32,
     /// Then in a directed search.
@@ -15,8 +17,16 @@ pub struct Leaves {
 impl Leaves {
     /// How many leaves are tried where the caller says nothing else (this program's own limit).
     pub const USUAL: Leaves = Leaves {
+        near: 0,
         in_order: 100_000,
         directed: 20_000,
+    };
+
+    /// Only those that are tried before all others, as many as a glance takes (this program's own limit).
+    pub const GLANCE: Leaves = Leaves {
+        near: 400,
+        in_order: 0,
+        directed: 0,
     };
 }
 
@@ -33,6 +43,8 @@ pub struct Budget<W> {
     /// How many have been tried for it.
     tried: u32,
     left: u32,
+    /// Those near to the claim have been tried.
+    looked: bool,
     /// They were used up once, and more were allowed.
     renewed: bool,
     /// There is no tree for the claim, however many splits it may have.
@@ -48,6 +60,7 @@ impl<W: Watch> Budget<W> {
             claim: 0,
             tried: 0,
             left: 0,
+            looked: false,
             renewed: false,
             hopeless: false,
         }
@@ -57,8 +70,19 @@ impl<W: Watch> Budget<W> {
     pub(crate) fn begin(&mut self, claim: usize) {
         self.claim = claim;
         self.tried = 0;
+        self.looked = false;
         self.again();
         self.watch.tries(claim, 0);
+    }
+
+    /// The search near to the claim begins, if there is one that hasn't been made yet.
+    pub(crate) fn looks_near(&mut self) -> bool {
+        let looks = !self.looked && self.leaves.near > 0;
+        self.looked = true;
+        if looks {
+            self.left = self.leaves.near;
+        }
+        looks
     }
 
     /// Another search for the same claim begins.

@@ -19,6 +19,7 @@ use crate::gap::Gap;
 use crate::plan::grown;
 use crate::question::Question;
 use crate::split::{Split, all_splits};
+use crate::trial::Trial;
 use crate::watch::{Unwatched, Watch};
 use std::alloc::{AllocError, Global};
 use tpl_checker::{Below, assumed_for};
@@ -46,7 +47,7 @@ pub fn analyse(
 ) -> Result<Certificate, Gap>
     requires claims { All (Fits graph.now.graph) claims.now }
     requires depth { depth ≤ MOST_SPLITS }
-    ensures accepted { IfOk result (λ c. Accepts false graph.now.graph claims.now c) }
+    ensures accepted { IfOk result (λ c. Accepts graph.now.graph claims.now c) }
     ensures splits { IfOk result (All (λ tree. height tree ≤ depth)) }
     ensures gap { IfErr result (IsGap Narrow graph.now.graph claims.now depth) }
 {
@@ -66,7 +67,7 @@ pub fn analyse_within<W: Watch>(
 ) -> Result<Certificate, Gap>
     requires claims { All (Fits graph.now.graph) claims.now }
     requires depth { depth ≤ MOST_SPLITS }
-    ensures accepted { IfOk result (λ c. Accepts false graph.now.graph claims.now c) }
+    ensures accepted { IfOk result (λ c. Accepts graph.now.graph claims.now c) }
     ensures splits { IfOk result (All (λ tree. height tree ≤ depth)) }
     ensures form { IfOk result (IsCertificateOf form claims.now) }
     ensures gap { IfErr result (IsGap Narrow graph.now.graph claims.now depth) }
@@ -126,7 +127,7 @@ fn certificate_for<W: Watch>(
     requires linked { AreLinks graph.now.graph made.now.linked }
     requires claims { All (Fits graph.now.graph) claims.now }
     requires depth { depth ≤ MOST_SPLITS }
-    ensures accepted { IfOk result (λ c. Accepts false graph.now.graph claims.now c) }
+    ensures accepted { IfOk result (λ c. Accepts graph.now.graph claims.now c) }
     ensures splits { IfOk result (All (λ tree. height tree ≤ depth)) }
     ensures form { IfOk result (IsCertificateOf form claims.now) }
     ensures gap { IfErr result (IsGap Narrow graph.now.graph claims.now depth) }
@@ -159,7 +160,7 @@ fn tree_for<W: Watch>(
     requires splits { All (IsSplitOf graph.now.graph) made.now.splits.items }
     requires linked { AreLinks graph.now.graph made.now.linked }
     ensures { IfOk result (λ found. IfSome found (IsFound graph.now.graph claim.now.body
-        form (assumed_for false graph.now.graph claim.now) depth)) }
+        form (assumed_for Narrow graph.now.graph claim.now) depth)) }
 {
     let rules = RuleSet::Narrow;
     let assumed = assumed_for(graph, claim, rules);
@@ -175,6 +176,7 @@ fn tree_for<W: Watch>(
         cone: &cone,
         linked: &made.linked,
         rules,
+        trial: Trial::by(rules),
     };
     let root = Branch::root(question, assumed);
     match deepened(alloc, question, &root, depth, budget)? {

@@ -29,7 +29,7 @@ impl Cone {
         rules: RuleSet,
         splits: &[Split],
     ) -> Cone {
-        let tasks = bearing_tasks(graph, property, assumed);
+        let tasks = bearing_tasks(graph, property, assumed, rules);
         match rules {
             RuleSet::Narrow => {
                 let splits = bearing_splits(graph, property, &tasks, splits);

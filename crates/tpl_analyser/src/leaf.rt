@@ -8,10 +8,11 @@ use crate::branch::Branch;
 use crate::budget::Budget;
 use crate::form::in_form;
 use crate::question::Question;
+use crate::trial::Trial;
 use crate::watch::Watch;
 use std::alloc::{AllocError, Global};
 use tpl_checker::accepts_leaf;
-use tpl_model::{RuleSet, TaskId};
+use tpl_model::TaskId;
 use tpl_outline::{least_rows, reached};
 use tpl_trees::{Node, Row, Tree, is_within_limits};
 use tpl_wide::{Check, least_leaf_proves};
@@ -48,16 +49,16 @@ pub(crate) fn try_leaf<W: Watch>(
 ) -> Result<Option<bool>, AllocError>
     requires { IsReady question }
 {
-    match question.rules {
-        RuleSet::Wide => try_wide_leaf(alloc, question, branch, budget),
-        RuleSet::Narrow if budget.spend(1) => Ok(Some(branch.is_proved(question))),
-        RuleSet::Narrow => Ok(None),
+    match question.trial {
+        Trial::Whole => try_whole_leaf(alloc, question, branch, budget),
+        Trial::Quick if budget.spend(1) => Ok(Some(branch.is_proved(question))),
+        Trial::Quick => Ok(None),
     }
 }
 
 /// The same by the rules that know of tokens and of winners. All rows are worked out, so it uses up as many leaves as that
 /// takes the time of.
-fn try_wide_leaf<W: Watch>(
+fn try_whole_leaf<W: Watch>(
     alloc: Global,
     question: Question<'_>,
     branch: &Branch,

@@ -5,6 +5,7 @@ ghost use Rattle.std.specs.Prelude.{◌≡◌};
 use crate::cone::Cone;
 use crate::form::Form;
 use crate::split::Split;
+use crate::trial::Trial;
 use tpl_checker::{Assumptions, Below};
 use tpl_graph::Graph;
 use tpl_model::{Property, RuleSet};
@@ -27,8 +28,10 @@ pub(crate) struct Question<'s> {
     pub(crate) cone: &'s Cone,
     /// By each token those that are requested with it.
     pub(crate) linked: &'s [TokenSet],
-    /// By which rules leaves are tried.
+    /// By which rules the claim is judged.
     pub(crate) rules: RuleSet,
+    /// How leaves are tried.
+    pub(crate) trial: Trial,
 }
 
 impl<'s> Question<'s> {
@@ -43,6 +46,7 @@ impl<'s> Question<'s> {
             stages: self.stages,
             followers: self.followers,
             assumed,
+            rules: self.rules,
         }
     }
 }

@@ -21,6 +21,7 @@ use crate::form::Form;
 use crate::gap::Gap;
 use crate::question::Question;
 use crate::ran_out::RanOut;
+use crate::trial::Trial;
 use crate::watch::Watch;
 use crate::written::in_form;
 use std::alloc::{AllocError, Global};
@@ -119,6 +120,7 @@ fn tree_for<W: Watch>(
         cone: &cone,
         linked: &made.linked,
         rules,
+        trial: Trial::by(rules),
     };
     let root = Branch::root(question, assumed.copy());
     match plan_for(alloc, question, &root, depth, budget)? {
@@ -150,7 +152,7 @@ fn plan_for<W: Watch>(
     }
     budget.again();
     let question = Question {
-        rules: RuleSet::Narrow,
+        trial: Trial::Quick,
         ..question
     };
     deepened(alloc, question, root, depth, budget)

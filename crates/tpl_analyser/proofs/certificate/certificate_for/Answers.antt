@@ -1,3 +1,4 @@
+use Rattle.tpl_model.specs.declared.rule_set.RuleSet.TheVariants.{Narrow}
 use Rattle.std.proofs.Common.{false, ◌≡◌, ◌+◌, ◌++◌, List, [], ◌∷◌, IfSome, Option, subst, sym}
 use Rattle.tpl_model.specs.Claims.{Claim}
 use Rattle.tpl_model.specs.Certificate.{Tree, assumed_for}
@@ -14,9 +15,9 @@ loop-at-preserved over c =
     let g = c.args.graph.now.graph in
     let claim = c.index-claims-at.result in
     let tree = c.in-Some.tree in
-    let of_claim : IsFound g claim.body c.args.form (assumed_for false g claim) c.args.depth tree =
-    subst (λ (o : Option Tree). IfSome o (IsFound g claim.body c.args.form (assumed_for false g claim) c.args.depth)) c.in-Some.is c.in_ok-tree.ensures in
-    let found = subst (λ (k : Claim). IsFound g k.body c.args.form (assumed_for false g k) c.args.depth tree) c.index-claims-at.is of_claim in
+    let of_claim : IsFound g claim.body c.args.form (assumed_for Narrow g claim) c.args.depth tree =
+    subst (λ (o : Option Tree). IfSome o (IsFound g claim.body c.args.form (assumed_for Narrow g claim) c.args.depth)) c.in-Some.is c.in_ok-tree.ensures in
+    let found = subst (λ (k : Claim). IsFound g k.body c.args.form (assumed_for Narrow g k) c.args.depth tree) c.index-claims-at.is of_claim in
     let pushed : c.push.new.self.items ≡ c.loop-at.trees.items ++ tree ∷ [] = c.in_ok-push-in-Some.ensures.items in
     subst (λ (trees : List Tree). FoundSoFar g c.args.claims.now c.args.form c.args.depth (c.loop-at.at + 1) trees) (sym pushed)
     (one_more g c.args.claims.now c.args.form c.args.depth c.loop-at.at c.loop-at.trees.items claim c.loop-at-test.true c.loop-at.invariant tree c.requires.depth found)

@@ -1,3 +1,4 @@
+use Rattle.tpl_model.specs.declared.rule_set.RuleSet.TheVariants.{Narrow}
 use Rattle.std.proofs.Common.{false, ◌≤◌, IfOk, IfSome, ap, ◌∙◌, subst}
 use Rattle.tpl_model.specs.declared.ids.TaskId.{TaskId}
 use Rattle.tpl_model.specs.declared.claim.Property.{Property}
@@ -18,5 +19,5 @@ returns-in-Some over c =
     let le : n ≤ c.args.depth = (rw c.in-Some.is at planned).height in
     let deep = if_found (IsFound g c.body-2.result c.args.form l n) (IsFound g c.body-2.result c.args.form l c.args.depth)
     (λ t f. found_deeper g c.body-2.result c.args.form l n c.args.depth t le f) c.grown.result c.grown.ensures in
-    subst (λ (p : Property TaskId). IfOk c.grown.result (λ found. IfSome found (IsFound g p c.args.form (assumed_for false g c.args.claim.now) c.args.depth))) c.body-2.ensures
+    subst (λ (p : Property TaskId). IfOk c.grown.result (λ found. IfSome found (IsFound g p c.args.form (assumed_for Narrow g c.args.claim.now) c.args.depth))) c.body-2.ensures
     (subst (λ (a : Assumed). IfOk c.grown.result (λ found. IfSome found (IsFound g c.body-2.result c.args.form a c.args.depth))) (ap assumed_of c.root-root.ensures ∙ c.assumed_for-assumed.ensures) deep)

@@ -1,0 +1,23 @@
+//! How leaves are tried.
+
+use tpl_model::RuleSet;
+
+/// How the leaves of a search are tried.
+#[derive(Clone, Copy)]
+pub(crate) enum Trial {
+    /// By what becomes of tasks alone, which takes less time and finds fewer trees. What is found is checked by the
+    /// rules that judge the claim.
+    Quick,
+    /// With all that their least rows say by the wide rules.
+    Whole,
+}
+
+impl Trial {
+    /// How leaves are tried that the rules judge, while there is time.
+    pub(crate) fn by(rules: RuleSet) -> Trial {
+        match rules {
+            RuleSet::Narrow => Trial::Quick,
+            RuleSet::Wide => Trial::Whole,
+        }
+    }
+}
