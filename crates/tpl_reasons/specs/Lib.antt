@@ -1,3 +1,5 @@
 pub mod Hidden
+pub mod Spelling
+pub mod Words
 pub mod Reasons
 pub mod Prelude

@@ -4,6 +4,7 @@ ghost use Rattle.std.specs.Prelude.{◌≡◌};
 ghost use Rattle.tpl_reasons.specs.Prelude.{audit_reason, verdict_reason};
 
 use crate::crossing::crossing_text;
+use crate::history::causes_text;
 use crate::journal::{ending_text, line_text};
 use crate::reason::Reason;
 use crate::refusal::refusal_text;
@@ -82,14 +83,15 @@ pub(crate) fn no_journal_text(alloc: Global, document: &Document, fault: Journal
 
 /// The run of a journal, as far as it is allowed.
 #[derive(Drop)]
-struct Replay<'g> {
-    run: Fast<'g>,
+pub(crate) struct Replay<'g> {
+    /// The run.
+    pub(crate) run: Fast<'g>,
     /// The first event that isn't allowed.
     refused: Option<Event>,
 }
 
 /// The run of these events. None, where the values of the inputs aren't known.
-fn played<'g>(
+pub(crate) fn played<'g>(
     alloc: Global,
     document: &'g Document,
     events: &[Event],
@@ -179,15 +181,16 @@ pub(crate) fn run_text(
     Ok(text)
 }
 
-/// At which event a claim fails, and whether no thread makes the run.
+/// At which event a claim fails, how the run came there, and whether no thread makes the run.
 fn fails_text(alloc: Global, document: &Document, failure: Failure) -> Said {
     let claim = claim_text(alloc, document, failure.claim)?;
     if failure.place == 0 {
         return format!(in alloc; "{claim} fails before the first event\n");
     }
     let line = line_text(alloc, document, failure.place)?;
+    let causes = causes_text(alloc, document, failure)?;
     let crossing = crossing_text(alloc, document)?;
-    format!(in alloc; "{claim} fails at {line}\n{crossing}")
+    format!(in alloc; "{claim} fails at {line}\n{causes}{crossing}")
 }
 
 /// Where a task stands that has to end before the run is complete: it is no child, or was started.

@@ -163,7 +163,7 @@ pub(crate) fn row_text(alloc: Global, graph: &Graph, rows: Rows<'_>, task: TaskI
     };
     let tokens = rows.tokens_text(alloc, graph, task)?;
     let task = name(graph, task);
-    let ends = ends_text(alloc, row.ends())?;
+    let ends = ends_text(row.ends());
     let runs = if row.runs() { "runs" } else { "doesn't run" };
     let before = set_text(alloc, graph, row.before())?;
     let past = set_text(alloc, graph, row.past())?;

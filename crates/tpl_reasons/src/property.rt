@@ -1,15 +1,20 @@
 //! What is said of a claim kind by kind: what it says of a run, where a leaf proves it, and what may stand in its way.
 
+ghost use Rattle.std.specs.Prelude.{◌≡◌, IfOk, string_bytes};
+ghost use Rattle.tpl_reasons.specs.Prelude.{property_words};
+
 use crate::words::{Said, ends_text, name};
 use std::alloc::Global;
 use tpl_graph::Graph;
 use tpl_model::{Final, Property, TaskId};
 
 /// What a property says of a run.
-pub(crate) fn property_text(alloc: Global, graph: &Graph, property: Property) -> Said {
+pub(crate) fn property_text(alloc: Global, graph: &Graph, property: Property) -> Said
+    ensures { IfOk result (λ text. string_bytes text ≡ property_words graph.now.names property) }
+{
     match property {
         Property::Final(task, ends) => {
-            let (task, ends) = (name(graph, task), ends_text(alloc, ends)?);
+            let (task, ends) = (name(graph, task), ends_text(ends));
             format!(in alloc; "{task} ends {ends}")
         }
         Property::After(first, second) => {

@@ -1,7 +1,8 @@
 //! Texts that a terminal shows as they are, whatever stands in the document.
 
-ghost use Rattle.std.specs.Prelude.{◌≡◌, ◌≢◌, [], false, IfOk, string_bytes};
-ghost use Rattle.tpl_reasons.specs.Prelude.{IsShown, is_hidden, turns};
+ghost use Rattle.std.specs.Prelude.{◌≡◌, ◌≢◌, ◌%◌, ◌++◌, [], false, codes, IfOk, OnOk, string_bytes};
+ghost use Rattle.std.specs.Char.{digit_char, encode_utf8};
+ghost use Rattle.tpl_reasons.specs.Prelude.{IsShown, four_digits, is_hidden, said_name, shown_letter, turns};
 
 use crate::words::Said;
 use std::alloc::{AllocError, Global};
@@ -28,7 +29,8 @@ fn is_hidden(letter: char) -> bool
 
 /// The last digit of a number to base 16.
 fn last_digit(number: u32) -> char
-    ensures { is_hidden result ≡ false }
+    ensures shown { is_hidden result ≡ false }
+    ensures digit { result ≡ digit_char (number % 16) }
 {
     char::from_digit(number % 16, 16).unwrap_or('0')
 }
@@ -37,7 +39,9 @@ fn last_digit(number: u32) -> char
 fn add(text: &mut String, letter: char) -> Result<(), AllocError>
     requires letter { is_hidden letter ≡ false }
     requires text { IsShown (string_bytes text.old) }
-    ensures { IfOk result (λ _. IsShown (string_bytes text.new)) }
+    ensures shown { IfOk result (λ _. IsShown (string_bytes text.new)) }
+    ensures added { OnOk result
+        (string_bytes text.new ≡ string_bytes text.old ++ encode_utf8 letter) }
 {
     text.push(letter)
 }
@@ -45,7 +49,9 @@ fn add(text: &mut String, letter: char) -> Result<(), AllocError>
 /// Adds a character as JSON escapes it: `\u`, and its number in four digits.
 fn add_escaped(text: &mut String, letter: char) -> Result<(), AllocError>
     requires { IsShown (string_bytes text.old) }
-    ensures { IfOk result (λ _. IsShown (string_bytes text.new)) }
+    ensures shown { IfOk result (λ _. IsShown (string_bytes text.new)) }
+    ensures added { OnOk result (string_bytes text.new
+        ≡ string_bytes text.old ++ (codes "\\u" ++ four_digits letter)) }
 {
     let number = u32::from(letter);
     add(text, '\\')?;
@@ -59,7 +65,9 @@ fn add_escaped(text: &mut String, letter: char) -> Result<(), AllocError>
 /// Adds a character, escaped where a terminal doesn't show it.
 fn add_letter(text: &mut String, letter: char) -> Result<(), AllocError>
     requires { IsShown (string_bytes text.old) }
-    ensures { IfOk result (λ _. IsShown (string_bytes text.new)) }
+    ensures shown { IfOk result (λ _. IsShown (string_bytes text.new)) }
+    ensures added { OnOk result
+        (string_bytes text.new ≡ string_bytes text.old ++ shown_letter letter) }
 {
     if is_hidden(letter) {
         add_escaped(text, letter)
@@ -70,7 +78,8 @@ fn add_letter(text: &mut String, letter: char) -> Result<(), AllocError>
 
 /// The text, in which each character that a terminal doesn't show is escaped.
 fn shown(alloc: Global, text: &str) -> Said
-    ensures { IfOk result (λ shown. IsShown (string_bytes shown)) }
+    ensures shown { IfOk result (λ shown. IsShown (string_bytes shown)) }
+    ensures spelled { IfOk result (λ shown. string_bytes shown ≡ said_name text.now) }
 {
     let mut shown = String::new(alloc);
     for letter in text.chars() {
@@ -81,7 +90,8 @@ fn shown(alloc: Global, text: &str) -> Said
 
 /// The name of a claim as a terminal shows it. Out of memory is the only error.
 pub fn said_name(alloc: Global, name: &str) -> Result<String, AllocError>
-    ensures { IfOk result (λ shown. IsShown (string_bytes shown)) }
+    ensures shown { IfOk result (λ shown. IsShown (string_bytes shown)) }
+    ensures spelled { IfOk result (λ shown. string_bytes shown ≡ said_name name.now) }
 {
     shown(alloc, name)
 }

@@ -1,9 +1,12 @@
 //! Names, claims, and sets of tasks and of ends, in words.
 
+ghost use Rattle.std.specs.Prelude.{◌≡◌, filter, map, not, IfOk, string_bytes};
+ghost use Rattle.tpl_reasons.specs.Prelude.{are_all_jobs, claim_words, ends_words, given_word, given_words, input_words, inputs_given, is_of_job, listed, named_text};
+
 use crate::property::property_text;
 use std::alloc::{AllocError, Global};
 use tpl_graph::{Claim, Graph};
-use tpl_model::{Actor, Final, Finals, Given, InputId, Inputs, SiteId, TaskId, TaskSet, TokenId};
+use tpl_model::{Actor, Finals, Given, InputId, Inputs, SiteId, TaskId, TaskSet, TokenId};
 use tpl_paths::TokenSet;
 use tpl_reader::Document;
 
@@ -23,7 +26,10 @@ pub(crate) enum Named {
 }
 
 /// The name of it, or a question mark where the graph has none for it.
-pub(crate) fn name_of(graph: &Graph, named: Named) -> &str {
+pub(crate) fn name_of(graph: &Graph, named: Named) -> &str
+    ensures { result.now ≡ named_text graph.now.names named }
+{
+    graph.valid_law();
     match named {
         Named::Task(task) if (task.0 as usize) < graph.len() => graph.name(task),
         Named::Token(token) if (token.0 as usize) < graph.token_count() => graph.token_name(token),
@@ -34,12 +40,16 @@ pub(crate) fn name_of(graph: &Graph, named: Named) -> &str {
 }
 
 /// The name of a task, or a question mark where the graph has no such task.
-pub(crate) fn name(graph: &Graph, task: TaskId) -> &str {
+pub(crate) fn name(graph: &Graph, task: TaskId) -> &str
+    ensures { result.now ≡ named_text graph.now.names (Named.Task task) }
+{
     name_of(graph, Named::Task(task))
 }
 
 /// The name of a token, or a question mark where the graph has no such token.
-pub(crate) fn token_name(graph: &Graph, token: TokenId) -> &str {
+pub(crate) fn token_name(graph: &Graph, token: TokenId) -> &str
+    ensures { result.now ≡ named_text graph.now.names (Named.Token token) }
+{
     name_of(graph, Named::Token(token))
 }
 
@@ -81,14 +91,24 @@ fn or_nothing(alloc: Global, list: String) -> Said {
 }
 
 /// The ends of a set.
-pub(crate) fn ends_text(alloc: Global, ends: Finals) -> Said {
-    let mut list = String::new(alloc);
-    for end in [Final::RanToCompletion, Final::Canceled, Final::Faulted] {
-        if ends.contains(end) {
-            add_word(&mut list, " or ", end.name())?;
-        }
+pub(crate) fn ends_text(ends: Finals) -> &'static str
+    ensures { result.now ≡ ends_words ends }
+{
+    let Finals {
+        ran,
+        canceled,
+        faulted,
+    } = ends;
+    match (ran, canceled, faulted) {
+        (true, true, true) => "RanToCompletion or Canceled or Faulted",
+        (true, true, false) => "RanToCompletion or Canceled",
+        (true, false, true) => "RanToCompletion or Faulted",
+        (true, false, false) => "RanToCompletion",
+        (false, true, true) => "Canceled or Faulted",
+        (false, true, false) => "Canceled",
+        (false, false, true) => "Faulted",
+        (false, false, false) => "nothing",
     }
-    or_nothing(alloc, list)
 }
 
 /// The names of the tasks of a set, at most five of them.
@@ -131,7 +151,9 @@ pub(crate) fn list_text(alloc: Global, graph: &Graph, tasks: &[TaskId]) -> Said 
 }
 
 /// One thing that a claim takes as given.
-fn one_given_text(alloc: Global, graph: &Graph, one: Given) -> Said {
+fn one_given_text(alloc: Global, graph: &Graph, one: Given) -> Said
+    ensures { IfOk result (λ text. string_bytes text ≡ given_word graph.now.names one) }
+{
     match one {
         Given::Input(input, value) => {
             let input = name_of(graph, Named::Input(input));
@@ -142,7 +164,7 @@ fn one_given_text(alloc: Global, graph: &Graph, one: Given) -> Said {
             format!(in alloc; "{token} is never requested")
         }
         Given::Ended(task, ends) => {
-            let (task, ends) = (name(graph, task), ends_text(alloc, ends)?);
+            let (task, ends) = (name(graph, task), ends_text(ends));
             format!(in alloc; "{task} ends {ends} or not at all")
         }
         Given::Succeeds(site) => {
@@ -152,43 +174,106 @@ fn one_given_text(alloc: Global, graph: &Graph, one: Given) -> Said {
     }
 }
 
-/// Whether it is given of each of several jobs that it doesn't fail.
-fn gives_all_jobs(graph: &Graph, given: &[Given]) -> bool {
-    let jobs = given
-        .iter()
-        .filter(|one| matches!(one, Given::Succeeds(_)))
-        .count();
+/// It is given that a job doesn't fail.
+fn is_of_job(one: Given) -> bool
+    ensures { result ≡ is_of_job one }
+{
+    match one {
+        Given::Succeeds(_) => true,
+        Given::Input(_, _) | Given::Quiet(_) | Given::Ended(_, _) => false,
+    }
+}
+
+/// It is given of each of several jobs that it doesn't fail.
+fn are_all_jobs(graph: &Graph, given: &[Given]) -> bool
+    ensures { result ≡ are_all_jobs graph.now.names given.now }
+{
+    let jobs = given.iter().filter(|one| is_of_job(**one)).count();
     jobs > 1 && jobs == graph.site_count()
 }
 
-/// What a claim takes as given.
-fn given_text(alloc: Global, graph: &Graph, given: &[Given]) -> Said {
-    let all_jobs = gives_all_jobs(graph, given);
+/// The words, with this text between each two.
+fn listed(alloc: Global, between: &str, words: &[String]) -> Said
+    ensures { IfOk result (λ text.
+        string_bytes text ≡ listed between.now (map string_bytes words.now)) }
+{
     let mut list = String::new(alloc);
-    for one in given {
-        if !all_jobs || !matches!(one, Given::Succeeds(_)) {
-            let text = one_given_text(alloc, graph, *one)?;
-            add_word(&mut list, " and ", text.as_str())?;
+    for (place, word) in words.iter().enumerate() {
+        if place > 0 {
+            list.push_str(between)?;
         }
-    }
-    if all_jobs {
-        add_word(&mut list, " and ", "no job fails")?;
+        list.push_str(word.as_str())?;
     }
     Ok(list)
 }
 
-/// The values of the inputs, in words: `dry is true and fast is false`. Out of memory is the only error.
-pub fn input_words(alloc: Global, graph: &Graph, inputs: &Inputs) -> Result<String, AllocError> {
+/// The words for each thing that is given.
+fn each_given(alloc: Global, graph: &Graph, given: &[Given]) -> Result<Vec<String>, AllocError>
+    ensures { IfOk result (λ words.
+        map string_bytes words.items ≡ map (given_word graph.now.names) given.now) }
+{
+    let mut words = Vec::new(alloc);
+    for one in given {
+        let word = one_given_text(alloc, graph, *one)?;
+        words.push(word)?;
+    }
+    Ok(words)
+}
+
+/// What is given but for the jobs that don't fail.
+fn without_jobs(alloc: Global, given: &[Given]) -> Result<Vec<Given>, AllocError>
+    ensures { IfOk result (λ others.
+        others.items ≡ filter (λ one. not (is_of_job one)) given.now) }
+{
+    let mut others = Vec::new(alloc);
+    for one in given {
+        if !is_of_job(*one) {
+            others.push(*one)?;
+        }
+    }
+    Ok(others)
+}
+
+/// What a claim takes as given.
+fn given_text(alloc: Global, graph: &Graph, given: &[Given]) -> Said
+    ensures { IfOk result (λ text. string_bytes text ≡ given_words graph.now.names given.now) }
+{
+    if are_all_jobs(graph, given) {
+        let others = without_jobs(alloc, given)?;
+        let mut words = each_given(alloc, graph, &others)?;
+        words.push(String::from_str(alloc, "no job fails")?)?;
+        listed(alloc, " and ", &words)
+    } else {
+        let words = each_given(alloc, graph, given)?;
+        listed(alloc, " and ", &words)
+    }
+}
+
+/// That the inputs have these values.
+fn inputs_given(alloc: Global, inputs: &Inputs) -> Result<Vec<Given>, AllocError>
+    ensures { IfOk result (λ given. given.items ≡ inputs_given 0 inputs.now) }
+{
     let mut given = Vec::new(alloc);
     for number in 0..inputs.len() {
         let input = InputId(number as u8);
         given.push(Given::Input(input, inputs.get(input)))?;
     }
-    given_text(alloc, graph, &given)
+    Ok(given)
+}
+
+/// The values of the inputs, in words: `dry is true and fast is false`. Out of memory is the only error.
+pub fn input_words(alloc: Global, graph: &Graph, inputs: &Inputs) -> Result<String, AllocError>
+    ensures { IfOk result (λ text. string_bytes text ≡ input_words graph.now.names inputs.now) }
+{
+    let given = inputs_given(alloc, inputs)?;
+    let words = each_given(alloc, graph, &given)?;
+    listed(alloc, " and ", &words)
 }
 
 /// What a claim says, in words: `B begins only after A is settled, where dry is true`. Out of memory is the only error.
-pub fn claim_words(alloc: Global, graph: &Graph, claim: &Claim) -> Result<String, AllocError> {
+pub fn claim_words(alloc: Global, graph: &Graph, claim: &Claim) -> Result<String, AllocError>
+    ensures { IfOk result (λ text. string_bytes text ≡ claim_words graph.now.names claim.now) }
+{
     let property = property_text(alloc, graph, claim.body())?;
     if claim.given().is_empty() {
         return Ok(property);

@@ -8,7 +8,7 @@ fn says_mark(bytes: &[u8]) -> &'static str {
     match bytes {
         [] => "there is nothing to read: the document comes on standard input\n",
         [0xEF, 0xBB, 0xBF, ..] => {
-            "the text begins with a byte order mark (EF BB BF): save it as UTF-8 without BOM\n"
+            "the text begins with two byte order marks (EF BB BF): save it as UTF-8 without BOM\n"
         }
         [0xFF, 0xFE, ..] => {
             "the text begins with FF FE, as UTF-16 does: save it as UTF-8 without BOM\n"

@@ -108,6 +108,7 @@ pub(crate) enum Form {
     EndedTask,
     ClaimName,
     Note,
+    Schema,
     /// How tasks were seen to end: a final status for each.
     Ends,
     /// When the lines of the journal were written.
@@ -119,7 +120,7 @@ pub(crate) enum Form {
 }
 
 /// What stands at a member, by its name, save where its object says otherwise.
-const MEMBERS: [(&str, Form); 56] = [
+const MEMBERS: [(&str, Form); 57] = [
     ("ends", Form::Finals),
     ("runs", Form::Truth),
     ("may_fail", Form::Truth),
@@ -176,10 +177,11 @@ const MEMBERS: [(&str, Form); 56] = [
     ("times", Form::Times),
     ("succeeds", Form::SureSite),
     ("note", Form::Note),
+    ("$schema", Form::Schema),
 ];
 
 /// The names of the members of a document, last those that version 3 adds.
-const TOP: [&str; 11] = [
+const TOP: [&str; 12] = [
     "version",
     "tasks",
     "inputs",
@@ -191,6 +193,7 @@ const TOP: [&str; 11] = [
     "note",
     "ended",
     "times",
+    "$schema",
 ];
 
 /// The names of the members of a task of any kind.
@@ -268,7 +271,7 @@ impl Form {
     /// Of an object's form: how many members it has to have, how many names version 3 adds, and the names of its members.
     fn row(self) -> (usize, usize, &'static [&'static str]) {
         match self {
-            Form::Top => (2, 3, &TOP),
+            Form::Top => (2, 4, &TOP),
             Form::Graph => (2, 0, &["inputs", "tokens", "tasks"]),
             Form::LinkedToken => (2, 0, &["name", "linked"]),
             Form::Task => (2, 1, &TASK),

@@ -114,6 +114,7 @@ impl Form {
             Form::LeastWord => "the word for a leaf without rows",
             Form::Version => "1, 2 or 3, written as an integer",
             Form::Note => "a note, which is a text",
+            Form::Schema => "the place of the schema, which is a text",
             Form::Ends => "an object with the final status of each task that was seen to end",
             Form::Journal => "the journal, one text",
             Form::Time => "a whole number",

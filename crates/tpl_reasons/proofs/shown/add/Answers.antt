@@ -13,5 +13,5 @@ more_shown : {A E : Type 0} (r : Result A E) (old new : List ℕ) (c : ℕ) → 
 more_shown (Ok x) old new c e shown before = subst IsShown (sym e) (NoCharPasses-append is_hidden old (encode_utf8 c) before (one_shown c shown))
 more_shown (Err x) old new c e shown before = tt
 
-pub returns : goal.returns
-returns c = more_shown c.push.result _ _ c.args.letter c.push.ensures.bytes c.requires.letter c.requires.text
+pub returns-clause-shown : goal.returns-clause-shown
+returns-clause-shown c = more_shown c.push.result _ _ c.args.letter c.push.ensures.bytes c.requires.letter c.requires.text
