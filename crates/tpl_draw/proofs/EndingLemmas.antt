@@ -1,4 +1,5 @@
 -- How tasks end by the rows of a certificate.
+use Rattle.tpl_model.specs.declared.rule_set.RuleSet.{RuleSet}
 use Rattle.std.proofs.Common.{◌≡◌, ℕ, inl, inr, Bool, true, false, Some, List, [], ◌∷◌, map, refl, sym, ap, subst}
 use Rattle.std.proofs.lemmas.Bool.{or_left, or_right}
 use Rattle.tpl_model.specs.declared.finals.Final.{Final}
@@ -80,29 +81,29 @@ rows_in_tree (WideLeaf leaf) rows t f w e = subst (λ z. has (row (plain z) t).e
 rows_in_tree LeastLeaf rows t f w e = in_each f
 
 -- a task ends as the trees say in the runs of which what may be taken as given for one of the claims is true
-abbrev EndsAre : Bool → TaskGraph → List Claim → List WideTree → Type 0
-EndsAre wide g claims trees =
-    (v : List Bool) (h : List Event) → Run g v h → IsSomeTaken wide g v h claims
+abbrev EndsAre : RuleSet → TaskGraph → List Claim → List WideTree → Type 0
+EndsAre rules g claims trees =
+    (v : List Bool) (h : List Event) → Run g v h → IsSomeTaken rules g v h claims
     → (t : ℕ) (f : Final) → final g v h t ≡ Some f → has (ends trees t) f ≡ true
 
 -- by the narrow rules
-narrow_ends : RowsAreTrue → SomeLeafAgrees → (g : TaskGraph) (claims : List Claim) (trees : List Tree) → IsGraph g → Accepts false g claims trees → EndsAre false g claims (map as_wide_tree trees)
+narrow_ends : RowsAreTrue → SomeLeafAgrees → (g : TaskGraph) (claims : List Claim) (trees : List Tree) → IsGraph g → Accepts g claims trees → EndsAre Narrow g claims (map as_wide_tree trees)
 narrow_ends rows_true some_leaf g [] [] valid acc v h run given t f e = absurd given
 narrow_ends rows_true some_leaf g (claim ∷ claims) [] valid acc v h run given t f e = absurd acc
 narrow_ends rows_true some_leaf g [] (tree ∷ trees) valid acc v h run given t f e = absurd acc
 narrow_ends rows_true some_leaf g (claim ∷ claims) (tree ∷ trees) valid acc v h run (inl given) t f e =
-    let w = some_leaf false g (taken false g claim) tree v h given in
-    let closed = leaf_closed g claim.body (assumed_for false g claim) w.0 tree w.1 acc.0 w.2 in
+    let w = some_leaf g (taken Narrow g claim) tree v h given in
+    let closed = leaf_closed g claim.body (assumed_for Narrow g claim) w.0 tree w.1 acc.0 w.2 in
     let in_rows = (rows_true g w.0 w.1 v h valid closed run w.3).0.ends t f e in
     in_first (tree_ends (as_wide_tree tree) t) (ends (map as_wide_tree trees) t) f
-    (rows_in_tree (as_wide_tree tree) (as_wide w.1) t f (leaf_rows (assumed_for false g claim) w.0 tree w.1 w.2)
+    (rows_in_tree (as_wide_tree tree) (as_wide w.1) t f (leaf_rows (assumed_for Narrow g claim) w.0 tree w.1 w.2)
     (subst (λ z. has z.ends f ≡ true) (sym (narrow_row w.1 t)) in_rows))
 narrow_ends rows_true some_leaf g (claim ∷ claims) (tree ∷ trees) valid acc v h run (inr given) t f e =
     in_second (tree_ends (as_wide_tree tree) t) (ends (map as_wide_tree trees) t) f
     (narrow_ends rows_true some_leaf g claims trees valid acc.1 v h run given t f e)
 
 -- by the wide ones
-wide_ends : SomeWideLeafIsTrue → (g : TaskGraph) (claims : List Claim) (trees : List WideTree) → IsGraph g → WidelyAccepts g claims trees → EndsAre true g claims (all_written g claims trees)
+wide_ends : SomeWideLeafIsTrue → (g : TaskGraph) (claims : List Claim) (trees : List WideTree) → IsGraph g → WidelyAccepts g claims trees → EndsAre Wide g claims (all_written g claims trees)
 wide_ends some_leaf g [] [] valid acc v h run given t f e = absurd given
 wide_ends some_leaf g (claim ∷ claims) [] valid acc v h run given t f e = absurd acc
 wide_ends some_leaf g [] (tree ∷ trees) valid acc v h run given t f e = absurd acc

@@ -9,7 +9,7 @@ use Rattle.tpl_model.specs.declared.rule_set.RuleSet.{RuleSet}
 use Rattle.tpl_model.specs.Rules.{final, Run}
 use Rattle.tpl_model.specs.Valid.{IsGraph}
 use Rattle.tpl_model.specs.Claims.{Claim, IsGiven}
-use Rattle.tpl_model.specs.Certificate.{row, is_wide, taken}
+use Rattle.tpl_model.specs.Certificate.{row, taken}
 use Rattle.tpl_model.specs.WiderRules.{plain, WideTree, OnInput, OnEnd, OnWinner, WideLeaf, LeastLeaf}
 use Rattle.tpl_laws.specs.ByRules.{AcceptsBy, written_by}
 use Rattle.tpl_laws.specs.LeastRows.{ends_where}
@@ -48,16 +48,16 @@ JoinsEnds others ends found = (other : ℕ → Finals) (n : ℕ) → others ≡ 
 abbrev pub endings : List WideTree → ℕ → List Finals
 endings trees n = each_task (ends trees) n
 
--- what a certificate may take as given for one of the claims is true of a run so far: by the wider rules for a claim
+-- what a certificate may take as given for one of the claims is true of a run so far: by the wide rules for a claim
 -- about a beginning also that the own token isn't requested
-abbrev pub IsSomeTaken : Bool → TaskGraph → List Bool → List Event → List Claim → Type 0
-IsSomeTaken wide g v h [] = ⊥
-IsSomeTaken wide g v h (claim ∷ claims) = IsGiven g v h (taken wide g claim) ⊎ IsSomeTaken wide g v h claims
+abbrev pub IsSomeTaken : RuleSet → TaskGraph → List Bool → List Event → List Claim → Type 0
+IsSomeTaken rules g v h [] = ⊥
+IsSomeTaken rules g v h (claim ∷ claims) = IsGiven g v h (taken rules g claim) ⊎ IsSomeTaken rules g v h claims
 
 -- where a certificate is accepted by the rules, a task ends as one of its rows says, written or left out, in each run of
 -- which what may be taken as given for one of the claims is true
 abbrev pub EndingsAreTrue : Type 0
 EndingsAreTrue =
     (rules : RuleSet) (g : TaskGraph) (claims : List Claim) (certificate : List WideTree) → IsGraph g → AcceptsBy rules g claims certificate
-    → (v : List Bool) (h : List Event) → Run g v h → IsSomeTaken (is_wide rules) g v h claims
+    → (v : List Bool) (h : List Event) → Run g v h → IsSomeTaken rules g v h claims
     → (t : ℕ) (f : Final) → final g v h t ≡ Some f → has (ends (written_by rules g claims certificate) t) f ≡ true

@@ -3,12 +3,14 @@ use Rattle.std.specs.Prelude.{◌≡◌, ◌⊎◌, ◌↔◌, ℕ, zero, suc, �
 use Rattle.tpl_model.specs.declared.status.Actor.{Actor}
 use Rattle.tpl_model.specs.declared.status.Label.{Label}
 use Rattle.tpl_model.specs.declared.status.Status.{Status}
-use Rattle.tpl_model.specs.Certificate.{Accepts, Tree}
+use Rattle.tpl_model.specs.declared.rule_set.RuleSet.{RuleSet}
+use Rattle.tpl_model.specs.WiderRules.{WideTree}
 use Rattle.tpl_model.specs.Claims.{Claim, Holds}
 use Rattle.tpl_model.specs.declared.event.Event.{Event}
 use Rattle.tpl_model.specs.Graph.{TaskGraph}
 use Rattle.tpl_model.specs.Rules.{Run, Complete, carried, label, seen, status}
 use Rattle.tpl_laws.specs.Soundness.{Each}
+use Rattle.tpl_laws.specs.ByRules.{AcceptsBy}
 use Rattle.tpl_draft.specs.Ids.{task_number}
 use Rattle.tpl_draft.specs.Named.{Named}
 use Rattle.tpl_machine.specs.Journal.{Journal, named}
@@ -77,10 +79,10 @@ pub record IsTold (g : TaskGraph) (v : List Bool) (h : List Event) (said : ToldV
   pub unseen : said.unseen ≡ those_below (is_unseen g v h) (length g.tasks)
   pub complete : (said.complete ≡ true) ↔ Complete g v h
 
--- What a session of this graph with these inputs leaves where it is closed well: it has kept all, and each claim of a certificate that is accepted holds. The list of each seat that was handed in is what its actor did, what was last reported to it is true there, and nobody else did anything. What is told of the run is so.
+-- What a session of this graph with these inputs leaves where it is closed well: it has kept all, and each claim of a certificate that is accepted, by whichever rules, holds. The list of each seat that was handed in is what its actor did, what was last reported to it is true there, and nobody else did anything. What is told of the run is so.
 pub record IsClosed {K : Type 0} (n : Named) (v : List Bool) (handed : List SeatView) (journal : List Event) (receipts : List (Receipt K)) (sites : List ℕ) (said : ToldView) : Type 0 where
   pub whole : IsWhole n v journal receipts sites
-  pub claims : (wide : Bool) (claims : List Claim) (certificate : List Tree) → Accepts wide n.graph claims certificate → Each (λ claim. Holds n.graph claim v (reverse journal)) claims
+  pub claims : (rules : RuleSet) (claims : List Claim) (certificate : List WideTree) → AcceptsBy rules n.graph claims certificate → Each (λ claim. Holds n.graph claim v (reverse journal)) claims
   pub own : AllOwn handed journal
   pub last : AllLast n.graph v handed journal
   pub seats : All (λ e. IsSeat e.actor) journal

@@ -143,7 +143,7 @@ fn judge<K: Drop, W: Item<K>>(
         hall.now.journal.items hall.now.receipts.items (map W.site items.now) (told_of t)) }
 {
     graph.valid_law();
-    tpl_laws::soundness();
+    tpl_laws::sound_by_rules();
     if !is_whole(hall, graph, inputs, items) {
         return Err(CloseWhy::Lost);
     }

@@ -1,5 +1,5 @@
 -- From what is answered to what was read and written.
-use Rattle.std.proofs.Common.{◌≡◌, ℕ, List, Option, Result, Ok, Err, IfOk, string_bytes, subst, inl, inr}
+use Rattle.std.proofs.Common.{◌≡◌, ◌<◌, ℕ, List, [], ◌∷◌, length, Option, Result, Ok, Err, IfOk, string_bytes, subst, inl, inr, arith}
 use Rattle.std.specs.declared.alloc.AllocError.{AllocError}
 use Rattle.tpl_commands.proofs.Responses.{said}
 use Rattle.tpl_audit.specs.declared.verdict.Verdict.{Verdict}
@@ -18,7 +18,7 @@ use Rattle.tpl_commands.specs.declared.responding.Answered.{Answered}
 use Rattle.tpl_commands.specs.Auditing.{Audits, HasRun, IsAudited, IsAuditAnswer, IsAuditOf, verdict_exit}
 use Rattle.tpl_commands.specs.Documents.{NoDocument}
 use Rattle.tpl_commands.specs.Responding.{Responds}
-use Rattle.tpl_trace.specs.Answer.{IsTraced, SpellsNoRun, Traces, Traced}
+use Rattle.tpl_trace.specs.Answer.{IsTracedSome, SpellsNoRun, Traces, Traced, traced_exit}
 
 -- the audit doesn't succeed where the journal is no run
 verdict_never : (input : List ℕ) (doc : DocumentValue) (verdict : Verdict) → SpellsNoRun input → Spells input doc → IsAudited doc verdict → Success ≡ verdict_exit verdict → ⊥
@@ -36,8 +36,12 @@ audits_never input text none (inl is) = audit_never input is.0 is.2.0 text none 
 audits_never input text none (inr is) = let e = is.2 in absurd cc
 
 -- what a success says
-drawn : (input text : List ℕ) → Traces input Success text → (doc : DocumentValue) × Spells input doc × IsTraced doc text
-drawn input text (inl is) = (is.0, is.1, is.2)
+some_event : (events : List Event) → Success ≡ traced_exit events → 0 < length events
+some_event [] ends = absurd cc
+some_event (event ∷ events) ends = omega arith
+
+drawn : (input text : List ℕ) → Traces input Success text → (doc : DocumentValue) × Spells input doc × IsTracedSome doc text
+drawn input text (inl is) = (is.0, is.1, (is.2, some_event is.2.events is.3))
 drawn input text (inr is) = absurd (audits_never input text is.0 is.1)
 
 -- what is answered where the journal of a document that was read is no run

@@ -1,11 +1,11 @@
 //! The trace of a document's journal.
 
-ghost use Rattle.std.specs.Prelude.{◌≡◌, ◌+◌, ◌≤◌, Some, IfOk, IfSome, string_bytes, All};
-ghost use Rattle.tpl_commands.specs.Prelude.{IsAnswer, IsFindingOf, Responds};
+ghost use Rattle.std.specs.Prelude.{◌≡◌, ◌+◌, ◌≤◌, Some, IfOk, IfSome, IsTrue, string_bytes, All};
+ghost use Rattle.tpl_commands.specs.Prelude.{IsAnswer, IsFindingOf, Responds, is_verdict};
 ghost use Rattle.tpl_graph.specs.Prelude.{Fits};
 ghost use Rattle.tpl_journal.specs.Prelude.{calls_of};
 ghost use Rattle.tpl_reader.specs.Prelude.{Spells, doc_of, inputs_of, longest};
-ghost use Rattle.tpl_trace.specs.Prelude.{IsJournalOf, Traced, Traces};
+ghost use Rattle.tpl_trace.specs.Prelude.{IsJournalOf, Traced, Traces, traced_exit};
 
 use crate::text::trace_text;
 use std::alloc::{AllocError, Global};
@@ -60,6 +60,17 @@ fn journal_of(alloc: Global, document: &Document) -> Result<Journal, AllocError>
     }
 }
 
+/// How the program ends with the trace of these events. Where there is none, nothing was recorded, which is no success.
+fn traced_exit(events: &[Event]) -> Exit
+    ensures ends { result ≡ traced_exit events.now }
+    ensures answered { IsTrue (is_verdict result) }
+{
+    match events {
+        [] => Exit::Failure,
+        [_, ..] => Exit::Success,
+    }
+}
+
 /// The trace of the journal of the document that the bytes spell, where that is a run; else what the audit answers.
 fn traced(alloc: Global, bytes: &[u8], document: Document) -> Result<Answered, AllocError>
     requires spelled { Spells bytes.now (doc_of document) }
@@ -74,9 +85,10 @@ fn traced(alloc: Global, bytes: &[u8], document: Document) -> Result<Answered, A
     one_document();
     match journal_of(alloc, &document)? {
         Journal::Run(events) => {
-            let exit = Exit::Success;
+            let list = events.as_slice();
+            let exit = traced_exit(list);
             let times = times_of(&document);
-            let text = trace_text(alloc, &document.graph, events.as_slice(), times)?;
+            let text = trace_text(alloc, &document.graph, list, times)?;
             let answer = Answer { exit, text };
             let finding = None;
             Ok(Answered { answer, finding })
@@ -108,7 +120,7 @@ impl<L: Listen> Command for Trace<L> {
 }
 
 /// Reads a document to its end, at most 16,777,216 bytes, and writes the trace of its journal, where that is a run;
-/// else what the audit of the document answers. The text is made whole before its first byte is written. A failed read
+/// else what the audit of the document answers. A trace without an event is no success. The text is made whole before its first byte is written. A failed read
 /// ends the reading, and then nothing is written; after a failed write no more is. Where the journal is no run, the
 /// listener is told why.
 pub fn trace_document<L: Listen, I: Read, O: Write>(
@@ -121,7 +133,7 @@ pub fn trace_document<L: Listen, I: Read, O: Write>(
         O.contents to.old to.new result }
     ensures reads { calls_of from.new ≤ calls_of from.old + (longest + 2) }
 
-    // From success on, what was read spells a document whose journal is a run, and its trace was written.
+    // From success on, what was read spells a document whose journal is a run with an event, and its trace was written.
     ensures traced { result ≡ Exit.Success
         → Traced I.remaining from.old from.new O.contents to.old to.new }
 {

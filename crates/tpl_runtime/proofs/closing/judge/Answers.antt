@@ -10,7 +10,7 @@ returns-in-Ok-clause-closes g c =
     let agrees = c.agrees.ensures.0 c.if-not-agrees.false in
     record {
       whole = whole;
-      claims = λ wide claims certificate accepts. c.soundness.ensures wide graph claims certificate c.valid_law.ensures.graph accepts c.args.inputs.now _ whole.run;
+      claims = λ rules claims certificate accepts. c.sound_by_rules.ensures rules graph claims certificate c.valid_law.ensures.graph accepts c.args.inputs.now _ whole.run;
       own = agrees.0;
       last = subst (λ (j : List Event). AllLast graph c.args.inputs.now c.args.seats.now j) c.journal.ensures.journal (c.in-Ok-true.ensures.0 c.in-Ok-true.field-0-test).1;
       seats = agrees.2;

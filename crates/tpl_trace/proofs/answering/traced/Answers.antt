@@ -1,6 +1,7 @@
-use Rattle.std.proofs.Common.{◌∙◌, ap, inl, refl, string_bytes}
+use Rattle.std.proofs.Common.{◌∙◌, ap, inl, string_bytes}
 use Rattle.tpl_reader.specs.SeenDocument.{doc_of}
 use Rattle.tpl_commands.specs.Recorded.{times_of}
+use Rattle.tpl_trace.specs.Answer.{traced_exit}
 use Rattle.tpl_trace.specs.Trace.{trace_text}
 use Rattle.tpl_trace.proofs.Tracing.{other_traces}
 use Rattle.tpl_trace.proofs.answering.traced.Goals as goal
@@ -15,9 +16,9 @@ returns-in_ok-text-in-Run-clause-answer c =
       record {
         events = c.in-Run.events.items;
         run = is.0;
-        said = c.in_ok-text-in-Run.ensures ∙ (ap (λ times. trace_text doc.graph times c.as_slice.result.now) c.times_of-times.ensures ∙ ap (trace_text doc.graph (times_of doc)) c.as_slice.ensures.value);
+        said = c.in_ok-text-in-Run.ensures ∙ (ap (λ times. trace_text doc.graph times c.as_slice-list.result.now) c.times_of-times.ensures ∙ ap (trace_text doc.graph (times_of doc)) c.as_slice-list.ensures.value);
       },
-      refl,
+      c.traced_exit-exit.ensures.ends ∙ ap traced_exit c.as_slice-list.ensures.value,
     )
 
 pub returns-in_ok-answer-in-Other-clause-answer : goal.returns-in_ok-answer-in-Other-clause-answer
