@@ -1,5 +1,5 @@
 -- What refutes a claim.
-use Rattle.std.specs.Prelude.{◌≡◌, ℕ, ◌<◌, Bool, List, length, reverse}
+use Rattle.std.specs.Prelude.{◌≡◌, ℕ, ◌<◌, ◌⊎◌, Bool, List, length, reverse}
 use Rattle.std.specs.List.{All}
 use Rattle.tpl_model.specs.Journal.{IsSeat}
 use Rattle.tpl_model.specs.Graph.{TaskGraph}
@@ -16,3 +16,7 @@ pub record Refutes (g : TaskGraph) (claim : Claim) (v : List Bool) (events : Lis
   pub fails : Holds g claim v (reverse events) → ⊥
   pub earlier : (place : ℕ) → place < length events → Holds g claim v (first_events events place)
   pub seats : All (λ e. IsSeat e.actor) events
+
+-- A search that may make so many runs found none: it made them all, or no event is left to be played.
+abbrev pub IsUsedUp : (runs made left : ℕ) → Type 0
+IsUsedUp runs made left = (made ≡ runs) ⊎ (left ≡ 0)

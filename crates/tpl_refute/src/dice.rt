@@ -1,6 +1,6 @@
 //! Random numbers.
 
-ghost use Rattle.std.specs.Prelude.{◌<◌};
+ghost use Rattle.std.specs.Prelude.{◌<◌, ◌≤◌};
 
 use rand::RngExt;
 use rand_pcg::Pcg32;
@@ -20,7 +20,8 @@ impl Dice {
 
     /// One of this many numbers from 0 on; 0 where there are none.
     pub(crate) fn roll(&mut self, count: u32) -> u32
-        ensures { 0 < count → result < count }
+        ensures one { 0 < count → result < count }
+        ensures most { result ≤ count }
     {
         if count == 0 {
             0

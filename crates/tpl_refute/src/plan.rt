@@ -2,11 +2,10 @@
 
 use crate::crew::Habit;
 use crate::dice::Dice;
+use crate::kept::Kept;
 use crate::weights::{FIRST, LAST, Mover, Way, Weights};
 use tpl_graph::{Claim, Graph};
-use tpl_model::{
-    Answer, Given, InputId, Inputs, MOST_SITES, MOST_TOKENS, Property, SiteId, TaskId, TokenId,
-};
+use tpl_model::{Answer, Given, InputId, Inputs, MOST_TOKENS, Property, TaskId, TokenId};
 
 /// The most places at which a priority drops.
 pub(crate) const MOST_DROPS: usize = 4;
@@ -34,53 +33,10 @@ pub(crate) struct Plan {
     pub(crate) failing: u32,
     /// A task all of whose jobs give this answer, if they may.
     pub(crate) fixed: Option<(TaskId, Answer)>,
-    /// The sites whose jobs are given as ones that don't fail.
-    pub(crate) sure: [bool; MOST_SITES],
+    /// What is to be kept of what is given.
+    pub(crate) kept: Kept,
     /// Who does what waits for nobody.
     pub(crate) habit: Habit,
-}
-
-/// The tokens that are requested in no run that agrees with what is given: those, and each source of one.
-pub(crate) fn quiet_tokens(graph: &Graph, given: &[Given]) -> [bool; MOST_TOKENS] {
-    let mut quiet = [false; MOST_TOKENS];
-    for one in given {
-        if let Given::Quiet(token) = one {
-            mark(&mut quiet, *token);
-        }
-    }
-    for number in (0..graph.token_count()).rev() {
-        if quiet[number] {
-            mark_all(&mut quiet, graph.sources(TokenId(number as u8)));
-        }
-    }
-    quiet
-}
-
-/// The sites whose jobs fail in no run that agrees with what is given.
-fn sure_sites(given: &[Given]) -> [bool; MOST_SITES] {
-    let mut sure = [false; MOST_SITES];
-    for one in given {
-        if let Given::Succeeds(SiteId(site)) = one {
-            let at = *site as usize;
-            if at < MOST_SITES {
-                sure[at] = true;
-            }
-        }
-    }
-    sure
-}
-
-fn mark(quiet: &mut [bool; MOST_TOKENS], token: TokenId) {
-    let at = token.0 as usize;
-    if at < MOST_TOKENS {
-        quiet[at] = true;
-    }
-}
-
-fn mark_all(quiet: &mut [bool; MOST_TOKENS], tokens: &[TokenId]) {
-    for token in tokens {
-        mark(quiet, *token);
-    }
 }
 
 /// Gives an input its value.
@@ -105,10 +61,10 @@ fn inputs_of(graph: &Graph, given: &[Given], dice: &mut Dice) -> Inputs {
 }
 
 /// Some of the tokens that aren't quiet.
-fn tokens_of(graph: &Graph, quiet: &[bool; MOST_TOKENS], dice: &mut Dice) -> [bool; MOST_TOKENS] {
+fn tokens_of(graph: &Graph, kept: &Kept, dice: &mut Dice) -> [bool; MOST_TOKENS] {
     let mut tokens = [false; MOST_TOKENS];
     for number in 0..graph.token_count() {
-        tokens[number] = !quiet[number] && dice.in_ten(ASKED_IN_TEN);
+        tokens[number] = !kept.is_quiet(TokenId(number as u8)) && dice.in_ten(ASKED_IN_TEN);
     }
     tokens
 }
@@ -210,17 +166,84 @@ impl Plan {
         } else {
             None
         };
-        let quiet = quiet_tokens(graph, claim.given());
+        let kept = Kept::of_given(graph, claim.given());
         let failing = FAILING_IN_TEN[dice.roll(FAILING_IN_TEN.len() as u32) as usize];
         Plan {
             inputs: inputs_of(graph, claim.given(), dice),
-            tokens: tokens_of(graph, &quiet, dice),
+            tokens: tokens_of(graph, &kept, dice),
             way,
             drops: drops_of(dice, drops, length),
             failing,
             fixed,
-            sure: sure_sites(claim.given()),
+            kept,
             habit: habit_of(dice),
+        }
+    }
+
+    /// Draws the calm run of this number, in which little goes wrong: nothing in the first one; then each token in turn is
+    /// requested before all else; and in later ones one token may be requested at any moment, or the jobs of one task fail,
+    /// or nothing goes wrong.
+    pub(crate) fn calm(
+        graph: &Graph,
+        claim: &Claim,
+        weights: &mut Weights,
+        dice: &mut Dice,
+        number: u32,
+    ) -> Plan {
+        let way = if number % 2 == 0 {
+            Way::Chances
+        } else {
+            Way::Priorities
+        };
+        let mut plan = Plan::draw(graph, claim, weights, dice, way, 0, 1);
+        plan.failing = 0;
+        plan.tokens = [false; MOST_TOKENS];
+        if number > graph.token_count() as u32 {
+            plan.disturb(graph, dice);
+        } else if let Some(token) = number.checked_sub(1) {
+            plan.ask(graph, TokenId(token as u8));
+            weights.set(Mover::Token(TokenId(token as u8)), FIRST);
+        }
+        plan
+    }
+
+    /// One token may be requested, or the jobs of one task fail, or neither.
+    fn disturb(&mut self, graph: &Graph, dice: &mut Dice) {
+        match dice.roll(3) {
+            0 => (),
+            1 => self.ask(graph, TokenId(dice.roll(graph.token_count() as u32) as u8)),
+            _ => {
+                let task = TaskId(dice.roll(graph.len() as u32) as u16);
+                self.fixed = Some((task, Answer::Failed));
+            }
+        }
+    }
+
+    /// A token may be requested, if it is one that may.
+    fn ask(&mut self, graph: &Graph, token: TokenId) {
+        let at = token.0 as usize;
+        if at < graph.token_count() && at < MOST_TOKENS && !self.kept.is_quiet(token) {
+            self.tokens[at] = true;
+        }
+    }
+
+    /// Draws a run in which this many of ten jobs fail, and nobody outside requests a token.
+    pub(crate) fn undisturbed(
+        graph: &Graph,
+        weights: &mut Weights,
+        dice: &mut Dice,
+        failing: u32,
+    ) -> Plan {
+        weights.draw(dice, Way::Chances);
+        Plan {
+            inputs: inputs_of(graph, &[], dice),
+            tokens: [false; MOST_TOKENS],
+            way: Way::Chances,
+            drops: [0; MOST_DROPS],
+            failing,
+            fixed: None,
+            kept: Kept::of_given(graph, &[]),
+            habit: Habit::Inside,
         }
     }
 
@@ -236,12 +259,6 @@ impl Plan {
                 }
             }
         }
-    }
-
-    /// The job of this site doesn't fail.
-    pub(crate) fn is_sure(&self, site: SiteId) -> bool {
-        let at = site.0 as usize;
-        at < MOST_SITES && self.sure[at]
     }
 
     /// The priority to which who acts at this place drops.

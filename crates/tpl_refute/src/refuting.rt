@@ -1,16 +1,15 @@
 //! The search.
 
-ghost use Rattle.std.specs.Prelude.{IfOk, IfSome};
+ghost use Rattle.std.specs.Prelude.{◌≤◌, IfOk, IfSome, IfNone};
 ghost use Rattle.tpl_graph.specs.Prelude.{Fits};
-ghost use Rattle.tpl_refute.specs.Refuting.{Refutes};
+ghost use Rattle.tpl_refute.specs.Refuting.{IsUsedUp, Refutes};
 
 use crate::budget::Budget;
 use crate::counterexample::Counterexample;
 use crate::dice::Dice;
+use crate::improving::improve;
 use crate::judging::judge;
 use crate::plan::{MOST_DROPS, Plan};
-use crate::replay::Stage;
-use crate::shortening::{PLAYED_TO_CUT, shorten};
 use crate::walk::{Tables, Walked, walk};
 use crate::weights::Way;
 use std::alloc::{AllocError, Global};
@@ -35,9 +34,10 @@ pub struct Effort {
 pub struct Sought {
     /// A run in which the claim fails, if one was found.
     pub found: Option<Counterexample>,
-    /// How many runs were made.
+    /// How many runs were made, the one that was found among them.
     pub runs: u32,
-    /// How many events may still be played.
+    /// How many events might still be played until one was found. Where there is none and fewer runs were made than may
+    /// be, that is 0.
     pub left: u64,
 }
 
@@ -75,8 +75,9 @@ fn attempt(
     }
 }
 
-/// Searches for a run of the graph in which the claim fails, by random runs, and leaves out of it what isn't needed.
-/// Where none is found there may be one. Out of memory is the only error.
+/// Searches for a run of the graph in which the claim fails, by random runs, and gives the smallest that it finds with a
+/// little more work. Where none is found there may be one: then all runs were made, or the events that may be played were
+/// used up before. Out of memory is the only error.
 ///
 /// Each run is drawn in one of two ways in turn: whoever may act has a random priority, and the priority of who acts
 /// drops at up to four random places (probabilistic concurrency testing: Burckhardt, Kothari, Musuvathi, Nagarakatte,
@@ -89,8 +90,11 @@ pub fn refute(
     effort: Effort,
 ) -> Result<Sought, AllocError>
     requires { Fits graph.now.graph claim.now }
-    ensures { IfOk result (λ sought. IfSome sought.found (λ one.
+    ensures found { IfOk result (λ sought. IfSome sought.found (λ one.
         Refutes graph.now.graph claim.now one.inputs one.events.items)) }
+    ensures ran_out { IfOk result (λ sought. IfNone sought.found
+        (IsUsedUp effort.runs sought.runs sought.left)) }
+    ensures made { IfOk result (λ sought. sought.runs ≤ effort.runs) }
 {
     let mut dice = Dice::new(effort.seed, effort.stream);
     let mut tables = Tables::new(alloc, graph)?;
@@ -105,39 +109,18 @@ pub fn refute(
             });
         }
         let (way, drops) = way_of(run);
-        let plan = Plan::draw(
-            graph,
-            claim,
-            &mut tables.weights,
-            &mut dice,
-            way,
-            drops,
-            length,
-        );
-        let (budget_left, habit) = (&mut budget, plan.habit);
-        match attempt(
-            alloc,
-            graph,
-            claim,
-            &mut tables,
-            &mut dice,
-            plan,
-            budget_left,
-            &mut length,
-        )? {
-            None => (),
-            Some(found) => {
-                let mut stage = Stage {
-                    crew: tables.crew,
-                    habit,
-                    budget: budget.of_same(PLAYED_TO_CUT),
-                };
-                return Ok(Sought {
-                    found: Some(shorten(alloc, graph, claim, found, &mut stage)?),
-                    runs: run + 1,
-                    left: budget.left(),
-                });
-            }
+        let weights = &mut tables.weights;
+        let plan = Plan::draw(graph, claim, weights, &mut dice, way, drops, length);
+        let (left, habit) = (&mut budget, plan.habit);
+        let (tables, dice) = (&mut tables, &mut dice);
+        let found = attempt(alloc, graph, claim, tables, dice, plan, left, &mut length)?;
+        if let Some(found) = found {
+            let best = improve(alloc, graph, claim, found, habit, tables, dice, budget)?;
+            return Ok(Sought {
+                found: Some(best),
+                runs: run + 1,
+                left: budget.left(),
+            });
         }
     }
     Ok(Sought {

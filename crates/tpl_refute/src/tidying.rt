@@ -2,23 +2,16 @@
 
 ghost use Rattle.tpl_graph.specs.Prelude.{Fits};
 
+use crate::change::{Change, Kind};
+use crate::counterexample::Counterexample;
 use crate::crew::Habit;
-use crate::replay::{Case, Cut, Failing, Stage, replay};
+use crate::replay::{Case, Failing, Stage, replay};
+use crate::shortening::sweep;
+use crate::size::Size;
 use std::alloc::{AllocError, Global};
 use tpl_fast::task_of;
-use tpl_graph::Graph;
-use tpl_model::{Actor, Event, TaskId};
-
-/// The greatest number of a worker that acts.
-fn workers(events: &[Event]) -> u16 {
-    let mut most = 0;
-    for event in events {
-        if let Actor::Worker(worker) = event.actor {
-            most = most.max(worker.0);
-        }
-    }
-    most
-}
+use tpl_graph::{Claim, Graph};
+use tpl_model::{Event, TaskId};
 
 /// The place behind the last event before this one that is of the same task, if others stand between.
 fn place_behind(events: &[Event], at: usize) -> Option<usize> {
@@ -46,18 +39,15 @@ fn with_earlier(
     Ok(moved)
 }
 
-/// The run with its events in another order, if it is as long, needs no more workers, and the claim fails after its
-/// last event; else the run itself.
-fn if_no_worse(case: Case<'_>, best: Vec<Event>, other: Vec<Event>, stage: &mut Stage) -> Failing
+/// The run with its events in another order, if the claim fails in it and it is no larger; else the run itself.
+fn if_no_larger(case: Case<'_>, best: Vec<Event>, other: Vec<Event>, stage: &mut Stage) -> Failing
     requires { Fits case.graph.now.graph case.claim.now }
 {
     if stage.budget.is_spent() {
         return Ok(best);
     }
-    match replay(case, other.as_slice(), Cut::Nothing, stage)? {
-        Some(played)
-            if played.len() <= best.len()
-                && workers(played.as_slice()) <= workers(best.as_slice()) => { Ok(played) }
+    match replay(case, other.as_slice(), Change::NONE, stage)? {
+        Some(played) if Size::of(played.as_slice()) <= Size::of(best.as_slice()) => Ok(played),
         _ => Ok(best),
     }
 }
@@ -73,7 +63,7 @@ fn gathered(case: Case<'_>, found: Vec<Event>, stage: &mut Stage) -> Failing
         }
         if let Some(to) = place_behind(best.as_slice(), at) {
             let other = with_earlier(case.alloc, best.as_slice(), at, to)?;
-            best = if_no_worse(case, best, other, stage)?;
+            best = if_no_larger(case, best, other, stage)?;
         }
     }
     Ok(best)
@@ -124,17 +114,40 @@ fn add_reversed(
     Ok(())
 }
 
-/// Puts the events of each task together, as far as the claim fails then too, and has as few workers act as serve.
-pub(crate) fn tidy(case: Case<'_>, found: Vec<Event>, stage: &mut Stage) -> Failing
+/// Puts the events of each task together, as far as the claim fails then too, and has as few workers act as serve, also
+/// where a body has to go on to its end for that.
+fn in_order(case: Case<'_>, found: Vec<Event>, stage: &mut Stage) -> Failing
     requires { Fits case.graph.now.graph case.claim.now }
 {
     let order = joined(case.alloc, case.graph, found.as_slice())?;
-    let whole = if_no_worse(case, found, order, stage)?;
+    let whole = if_no_larger(case, found, order, stage)?;
     let best = gathered(case, whole, stage)?;
     stage.habit = match stage.habit {
         Habit::Inside => Habit::Aside,
         Habit::Aside => Habit::Inside,
     };
     let same = Vec::from_slice(case.alloc, best.as_slice())?;
-    if_no_worse(case, best, same, stage)
+    let best = if_no_larger(case, best, same, stage)?;
+    sweep(case, best, Kind::Bodies, 1, stage)
+}
+
+/// The run, put in order. Nothing is proved of it.
+pub(crate) fn tidy(
+    alloc: Global,
+    graph: &Graph,
+    claim: &Claim,
+    found: Counterexample,
+    stage: &mut Stage,
+) -> Result<Counterexample, AllocError>
+    requires { Fits graph.now.graph claim.now }
+{
+    let inputs = found.inputs;
+    let case = Case {
+        alloc,
+        graph,
+        claim,
+        inputs: &inputs,
+    };
+    let events = in_order(case, found.events, stage)?;
+    Ok(Counterexample { inputs, events })
 }

@@ -3,6 +3,7 @@
 ghost use Rattle.std.specs.Prelude.{◌≡◌};
 ghost use Rattle.tpl_graph.specs.Prelude.{Fits};
 
+use crate::acting::advance;
 use crate::awake::Awake;
 use crate::budget::Budget;
 use crate::crew::{Crew, has_task};
@@ -14,8 +15,8 @@ use std::alloc::{AllocError, Global};
 use tpl_audit::holds;
 use tpl_fast::Fast;
 use tpl_graph::{Claim, Graph};
-use tpl_machine::{Core, Next};
-use tpl_model::{Act, Answer, Event, Finals, Given, Status, TaskId};
+use tpl_machine::Core;
+use tpl_model::{Act, Event, Finals, Given, Status, TaskId};
 
 /// How often somebody is chosen in a run at most.
 const MOST_CHOICES: u32 = 1_000_000;
@@ -49,51 +50,6 @@ impl Tables {
     }
 }
 
-/// Does what a running task does next.
-fn run_on(core: &mut Fast<'_>, crew: &mut Crew, task: TaskId, plan: &Plan, answer: Answer) -> bool
-    ensures { core.new.graph ≡ core.old.graph }
-{
-    if !has_task(core, task) {
-        return false;
-    }
-    match core.next(task) {
-        Next::NotRunning => false,
-        Next::Silent => crew.perform(core, Act::Step(task)),
-        Next::Work(site) => {
-            let answer = if plan.is_sure(site) {
-                Answer::Done
-            } else {
-                answer
-            };
-            crew.perform(core, Act::Worked(task, answer))
-                || crew.perform(core, Act::Worked(task, Answer::Done))
-        }
-        Next::Over => crew.perform(core, Act::Leave(task)),
-    }
-}
-
-/// Does the next act of a task, if it has one.
-fn advance(core: &mut Fast<'_>, crew: &mut Crew, task: TaskId, plan: &Plan, answer: Answer) -> bool
-    ensures { core.new.graph ≡ core.old.graph }
-{
-    if !has_task(core, task) {
-        return false;
-    }
-    match core.status(task) {
-        Status::Created | Status::Completed(_) => false,
-        Status::WaitingForActivation => {
-            crew.perform(core, Act::Release(task))
-                || crew.perform(core, Act::Settle(task))
-                || crew.perform(core, Act::Drop(task))
-        }
-        Status::WaitingToRun => {
-            crew.perform(core, Act::Begin(task)) || crew.perform(core, Act::Drop(task))
-        }
-        Status::Running => run_on(core, crew, task, plan, answer),
-        Status::WaitingForChildrenToComplete => crew.perform(core, Act::Close(task)),
-    }
-}
-
 /// Does what is next of a task or a token, if there is something.
 fn act(core: &mut Fast<'_>, crew: &mut Crew, mover: Mover, plan: &Plan, dice: &mut Dice) -> bool
     ensures { core.new.graph ≡ core.old.graph }
@@ -102,7 +58,7 @@ fn act(core: &mut Fast<'_>, crew: &mut Crew, mover: Mover, plan: &Plan, dice: &m
         Mover::Token(token) => crew.perform(core, Act::Request(token)),
         Mover::Task(task) => {
             let answer = plan.answer(dice, task);
-            advance(core, crew, task, plan, answer)
+            advance(core, crew, task, &plan.kept, answer)
         }
     }
 }
@@ -206,4 +162,28 @@ pub(crate) fn walk(
         }
     }
     Ok(Walked::Holds(core.events().len()))
+}
+
+/// Makes a run by the plan, until nobody can act or the events that may be played are used up.
+pub(crate) fn stroll<'g>(
+    alloc: Global,
+    graph: &'g Graph,
+    tables: &mut Tables,
+    dice: &mut Dice,
+    plan: &Plan,
+    budget: &mut Budget,
+) -> Result<Fast<'g>, AllocError> {
+    let mut core = Fast::open(alloc, graph, plan.inputs.copy())?;
+    budget.open();
+    tables.crew.begin_run(plan.habit);
+    tables.awake.begin(&core, &tables.links)?;
+    for _ in 0..MOST_CHOICES {
+        if core.complete() || budget.is_spent() {
+            break;
+        }
+        if !turn(&mut core, tables, dice, plan, budget)? {
+            break;
+        }
+    }
+    Ok(core)
 }

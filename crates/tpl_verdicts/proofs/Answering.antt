@@ -16,14 +16,15 @@ use Rattle.tpl_reader.proofs.Claimed.{claims_spelled}
 use Rattle.tpl_verify.specs.declared.verdict.Verdict.{Verdict}
 use Rattle.tpl_verify.specs.declared.verdict.Verdict.TheVariants as verdict
 use Rattle.tpl_verify.specs.Verdicts.{IsSo, IsVerdict}
-use Rattle.tpl_commands.proofs.Responses.{tells, IsYesOrNo}
+use Rattle.tpl_commands.proofs.Responses.{said, unreadable≢, IsYesOrNo}
+use Rattle.tpl_reader.specs.Document.{DocumentValue, Spells}
 use Rattle.tpl_verdicts.specs.declared.style.Style.{Style}
 use Rattle.tpl_verdicts.specs.Answer.{IsVerified, Judged, Verified, Verifies}
 
 -- the answer to bytes that spell no document
-pub unread : (style : Style) (bytes : List ℕ) (r : Result Answered AllocError) → IfOk r (λ it. NoDocument bytes it.answer.exit (string_bytes it.answer.text)) → IfOk r (λ it. Verifies style bytes it.answer.exit (string_bytes it.answer.text))
-unread style bytes (Ok it) wrong = inr wrong
-unread style bytes (Err e) wrong = tt
+pub unread : (depth : ℕ) (style : Style) (bytes : List ℕ) (r : Result Answered AllocError) → IfOk r (λ it. NoDocument bytes it.answer.exit (string_bytes it.answer.text)) → IfOk r (λ it. Verifies depth style bytes it.answer.exit (string_bytes it.answer.text))
+unread depth style bytes (Ok it) wrong = inr wrong
+unread depth style bytes (Err e) wrong = tt
 
 -- what is said where no document is answered is said for each command
 says_all : (answers : Answers) (input : List ℕ) (exit : Exit) (text : List ℕ) → Says NoAnswer input exit text → Says answers input exit text
@@ -40,9 +41,16 @@ pub unanswered : {R W : Type 0} (answers : Answers) (remaining : R → Option (L
 unanswered answers remaining from_old from_new contents old new result (inl it) = inl (it.0, it.1, it.2, it.3, says_all answers it.0 it.1 it.2 it.4, it.5)
 unanswered answers remaining from_old from_new contents old new result (inr failed) = inr failed
 
-pub done_verifies : {R W : Type 0} (remaining : R → Option (List ℕ)) (from_old from_new : Counting R) (contents : W → Option (List ℕ)) (old new : Counting W) (style : Style) (result : Exit) → Responds (Verifies style) remaining from_old from_new contents old new result → IsYesOrNo result → Verified remaining from_old from_new contents old new style result
-done_verifies remaining from_old from_new contents old new style result responds done =
-    tells remaining from_old from_new contents old new result (IsVerified style) (λ doc text. IsVerified style doc result text) done (λ doc text verified. verified) responds
+-- a yes or no answers a document
+of_document : (depth : ℕ) (style : Style) (bytes text : List ℕ) (exit : Exit) → IsYesOrNo exit → Verifies depth style bytes exit text → (doc : DocumentValue) × Spells bytes doc × IsVerified depth style bytes doc exit text
+of_document depth style bytes text exit done (inl it) = it
+of_document depth style bytes text exit done (inr none) = absurd (unreadable≢ exit done none.2)
+
+pub done_verifies : {R W : Type 0} (remaining : R → Option (List ℕ)) (from_old from_new : Counting R) (contents : W → Option (List ℕ)) (old new : Counting W) (depth : ℕ) (style : Style) (result : Exit) → Responds (Verifies depth style) remaining from_old from_new contents old new result → IsYesOrNo result → Verified remaining from_old from_new contents old new depth style result
+done_verifies remaining from_old from_new contents old new depth style result responds done =
+    let s = said remaining from_old from_new contents old new result (Verifies depth style) done responds in
+    let d = of_document depth style s.input s.text result done s.is in
+    record { input = s.input; reads = s.reads; doc = d.0; spelled = d.1; text = s.text; is = d.2; writes = s.writes }
 
 -- ---- the verdicts, whatever they were found by
 
@@ -57,13 +65,14 @@ all_so rules g [] (v ∷ verdicts) all = absurd all
 all_so rules g (claim ∷ claims) [] all = absurd all
 all_so rules g (claim ∷ claims) (v ∷ verdicts) all = (is_so rules g claim v all.0, all_so rules g claims verdicts all.1)
 
-pub verified_judges : {R W : Type 0} (remaining : R → Option (List ℕ)) (from_old from_new : Counting R) (contents : W → Option (List ℕ)) (old new : Counting W) (style : Style) (result : Exit) → Verified remaining from_old from_new contents old new style result → Judged remaining from_old from_new contents old new style result
-verified_judges remaining from_old from_new contents old new style result told = record {
+pub verified_judges : {R W : Type 0} (remaining : R → Option (List ℕ)) (from_old from_new : Counting R) (contents : W → Option (List ℕ)) (old new : Counting W) (depth : ℕ) (style : Style) (result : Exit) → Verified remaining from_old from_new contents old new depth style result → Judged remaining from_old from_new contents old new style result
+verified_judges remaining from_old from_new contents old new depth style result told = record {
   input = told.input;
   reads = told.reads;
   graph = told.doc.graph;
   claims = told.doc.claims;
   spelled = claims_spelled told.input told.doc told.spelled;
+  names = told.doc.names;
   verdicts = told.is.verdicts;
   true_of = all_so (rules_of told.doc) told.doc.graph.graph told.doc.claims told.is.verdicts told.is.true_of;
   ends = told.is.ends;

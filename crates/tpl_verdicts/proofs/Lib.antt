@@ -1,4 +1,4 @@
 pub mod EntryLemmas
-pub mod CaseLemmas
 pub mod JsonLemmas
+pub mod ReasonLemmas
 pub mod Answering

@@ -1,53 +1,67 @@
 -- What `verify` answers to a document.
-use Rattle.std.specs.Prelude.{◌≡◌, ℕ, List, Option}
+use Rattle.std.specs.Prelude.{◌≡◌, ◌<◌, ℕ, List, length, Option}
 use Rattle.std.specs.List.{All, AllZip}
 use Rattle.tpl_model.specs.Claims.{Claim}
 use Rattle.tpl_draft.specs.Named.{Names, Named}
 use Rattle.tpl_journal.specs.Writing.{Writes}
 use Rattle.tpl_journal.specs.declared.counting.Counting.{Counting}
-use Rattle.tpl_reader.specs.Document.{DocumentValue, SpellsClaims}
+use Rattle.tpl_reader.specs.Bytes.{behind_mark}
+use Rattle.tpl_reader.specs.Document.{DocumentValue, Spells, SpellsClaims}
 use Rattle.tpl_commands.specs.declared.exit.Exit.{Exit}
 use Rattle.tpl_commands.specs.declared.exit.Exit.TheVariants.{Success, Failure}
-use Rattle.tpl_commands.specs.Documents.{Tells, ToDocument}
+use Rattle.tpl_commands.specs.Documents.{ToDocument}
 use Rattle.tpl_commands.specs.Rules.{rules_of}
 use Rattle.tpl_commands.specs.Responding.{Answers, Reads}
 use Rattle.tpl_verify.specs.declared.verdict.Verdict.{Verdict}
-use Rattle.tpl_verify.specs.Verdicts.{HoldsAlways, HoldsFully, IsSo, IsVerdict}
+use Rattle.tpl_verify.specs.Verdicts.{HoldsAlways, HoldsFully, IsShallow, IsSo, IsVerdict}
 use Rattle.tpl_verdicts.specs.declared.style.Style.{Style}
-use Rattle.tpl_verdicts.specs.declared.style.Style.TheVariants.{Text, Json, Junit}
+use Rattle.tpl_verdicts.specs.declared.style.Style.TheVariants.{Text, Json, Junit, Html}
+use Rattle.tpl_verdicts.specs.Html.{IsHtml}
 use Rattle.tpl_verdicts.specs.Json.{IsJson}
 use Rattle.tpl_verdicts.specs.Junit.{IsJunit}
 use Rattle.tpl_verdicts.specs.Lines.{IsText}
+use Rattle.tpl_verdicts.specs.Told.{Told, told}
 
--- success, where by the verdicts each claim holds and none is empty; else failure
+-- there is a claim, and by the verdicts each holds and none is empty
+abbrev pub AllHold : List Verdict → Type 0
+AllHold verdicts = (0 < length verdicts) × All HoldsFully verdicts
+
+-- success, where that is so; else failure
 abbrev pub IsExit : List Verdict → Exit → Type 0
-IsExit verdicts Success = All HoldsFully verdicts
-IsExit verdicts Failure = All HoldsFully verdicts → ⊥
+IsExit verdicts Success = AllHold verdicts
+IsExit verdicts Failure = AllHold verdicts → ⊥
 IsExit verdicts exit = ⊥
 
--- the text says in this style what the verdicts are
-abbrev pub IsStyled : Style → Names → List Verdict → List ℕ → Type 0
-IsStyled Text names verdicts text = IsText names verdicts text
-IsStyled Json names verdicts text = IsJson names verdicts text
-IsStyled Junit names verdicts text = IsJunit verdicts text
+-- the text says in this style what the verdicts on the claims of a document with this text are
+abbrev pub IsStyled : Style → (document : List ℕ) → Names → List Told → List Verdict → List ℕ → Type 0
+IsStyled Text document names claims verdicts text = IsText names claims verdicts text
+IsStyled Json document names claims verdicts text = IsJson names claims verdicts text
+IsStyled Junit document names claims verdicts text = IsJunit names claims verdicts text
+IsStyled Html document names claims verdicts text = IsHtml document names claims verdicts text
 
--- The text says what the verdicts on the document's claims are, each of which is true; with success each claim holds in
--- each run.
-pub record IsVerified (style : Style) (doc : DocumentValue) (exit : Exit) (text : List ℕ) : Type 0 where
+-- The text says what the verdicts on the claims of the document that the bytes spell are, each of which is true, by certificates
+-- with at most so many splits; with success each claim holds in each run.
+pub record IsVerified (depth : ℕ) (style : Style) (bytes : List ℕ) (doc : DocumentValue) (exit : Exit) (text : List ℕ) : Type 0 where
   pub verdicts : List Verdict
   pub true_of : AllZip (IsVerdict (rules_of doc) doc.graph.graph) doc.claims verdicts
+  pub shallow : All (IsShallow depth) verdicts
   pub ends : IsExit verdicts exit
   pub sound : exit ≡ Success → All (HoldsAlways doc.graph.graph) doc.claims
-  pub says : IsStyled style doc.graph.names verdicts text
+  pub says : IsStyled style (behind_mark bytes) doc.graph.names (told doc.claims doc.names verdicts) verdicts text
 
--- the answer of `verify` to bytes
-abbrev pub Verifies : Style → Answers
-Verifies style = ToDocument (IsVerified style)
+-- the answer of `verify` to bytes, by certificates with at most so many splits
+abbrev pub Verifies : ℕ → Style → Answers
+Verifies depth style bytes exit text = ToDocument (IsVerified depth style bytes) bytes exit text
 
 -- What was read spells a document, and the verdicts on its claims were written.
-abbrev pub Verified : {R W : Type 0} → (R → Option (List ℕ)) → Counting R → Counting R → (W → Option (List ℕ)) → Counting W → Counting W → Style → Exit → Type 0
-Verified remaining from_old from_new contents to_old to_new style exit =
-    Tells (λ doc text. IsVerified style doc exit text) remaining from_old from_new contents to_old to_new
+pub record Verified {R W : Type 0} (remaining : R → Option (List ℕ)) (from_old from_new : Counting R) (contents : W → Option (List ℕ)) (to_old to_new : Counting W) (depth : ℕ) (style : Style) (exit : Exit) : Type 0 where
+  pub input : List ℕ
+  pub reads : Reads remaining from_old from_new input
+  pub doc : DocumentValue
+  pub spelled : Spells input doc
+  pub text : List ℕ
+  pub is : IsVerified depth style input doc exit text
+  pub writes : Writes contents to_old to_new text
 
 -- What was read spells claims of a graph, and a verdict on each was written, which is true.
 pub record Judged {R W : Type 0} (remaining : R → Option (List ℕ)) (from_old from_new : Counting R) (contents : W → Option (List ℕ)) (to_old to_new : Counting W) (style : Style) (exit : Exit) : Type 0 where
@@ -56,9 +70,10 @@ pub record Judged {R W : Type 0} (remaining : R → Option (List ℕ)) (from_old
   pub graph : Named
   pub claims : List Claim
   pub spelled : SpellsClaims input graph claims
+  pub names : List (Option (List ℕ))
   pub verdicts : List Verdict
   pub true_of : AllZip (IsSo graph.graph) claims verdicts
   pub ends : IsExit verdicts exit
   pub text : List ℕ
-  pub says : IsStyled style graph.names verdicts text
+  pub says : IsStyled style (behind_mark input) graph.names (told claims names verdicts) verdicts text
   pub writes : Writes contents to_old to_new text

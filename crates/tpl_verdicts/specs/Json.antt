@@ -1,8 +1,9 @@
 -- The verdicts as a JSON value.
-use Rattle.std.specs.Prelude.{◌≡◌, ◌⊎◌, ℕ, Some, None, List, ◌++◌, codes, length}
+use Rattle.std.specs.Prelude.{◌≡◌, ℕ, Option, Some, None, List, ◌++◌, codes, length}
 use Rattle.serde_json.specs.Data.{Data, Members, array, boolean, member, no_members, number, object, put, string, unsigned}
 use Rattle.serde_json.specs.Read.{read}
 use Rattle.serde_json.specs.View.{items_of}
+use Rattle.tpl_model.specs.Claims.{Claim}
 use Rattle.tpl_draft.specs.Named.{Names}
 use Rattle.tpl_journal.specs.Lines.{lines, task_name}
 use Rattle.tpl_analyser.specs.declared.ran_out.RanOut.{RanOut}
@@ -10,11 +11,13 @@ use Rattle.tpl_analyser.specs.declared.ran_out.RanOut.TheVariants.{Depth, Leaves
 use Rattle.tpl_refute.specs.declared.counterexample.Counterexample.{Counterexample}
 use Rattle.tpl_verify.specs.Filled.{AreFirst}
 use Rattle.tpl_verify.specs.declared.verdict.Empty as reasons
-use Rattle.tpl_verify.specs.declared.verdict.Empty.TheVariants.{NeverBegins, NamesAllEnds, NeverThrows, NeverKept}
+use Rattle.tpl_verify.specs.declared.verdict.Empty.TheVariants.{NeverBegins, NamesAllEnds, NamesGivenEnds, NeverThrows, NeverEndsSo, NeverEnds, NeverKept}
 use Rattle.tpl_verify.specs.declared.verdict.Tried.{Tried}
 use Rattle.tpl_verify.specs.declared.verdict.Verdict.{Verdict}
 use Rattle.tpl_verify.specs.declared.verdict.Verdict.TheVariants as verdict
+use Rattle.tpl_reasons.specs.Words.{claim_words}
 use Rattle.tpl_verdicts.specs.declared.word.Word.TheVariants.{Holds, Fails, Empty, Unknown}
+use Rattle.tpl_verdicts.specs.Told.{Told}
 use Rattle.tpl_verdicts.specs.Words.{count_of, word_text}
 use Rattle.tpl_verdicts.specs.Lines.{AreNumbered}
 
@@ -22,12 +25,17 @@ use Rattle.tpl_verdicts.specs.Lines.{AreNumbered}
 abbrev pub number_data : ℕ → Data
 number_data n = number (unsigned n)
 
--- why a claim says nothing, and which task never begins
+-- why a claim says nothing, and which task never begins or ends
 abbrev pub why_data : Names → reasons.Empty → Data
 why_data names (NeverBegins t) =
     object (member (codes "task") (string (task_name names t)) (member (codes "why") (string (codes "NeverBegins")) no_members))
 why_data names NamesAllEnds = object (member (codes "why") (string (codes "NamesAllEnds")) no_members)
+why_data names NamesGivenEnds = object (member (codes "why") (string (codes "NamesGivenEnds")) no_members)
 why_data names NeverThrows = object (member (codes "why") (string (codes "NeverThrows")) no_members)
+why_data names (NeverEndsSo t) =
+    object (member (codes "task") (string (task_name names t)) (member (codes "why") (string (codes "NeverEndsSo")) no_members))
+why_data names (NeverEnds t) =
+    object (member (codes "task") (string (task_name names t)) (member (codes "why") (string (codes "NeverEnds")) no_members))
 why_data names NeverKept = object (member (codes "why") (string (codes "NeverKept")) no_members)
 
 -- what ran out in a search
@@ -68,20 +76,22 @@ unknown_data n words tried =
     object (member (codes "claim") (number_data n) (member (codes "text") (string words) (member (codes "tried") tried (member (codes "verdict") (string (word_text Unknown)) no_members))))
 
 -- the value for the claim of this number says what its verdict says
-abbrev pub IsClaimData : Names → ℕ → Verdict → Data → Type 0
-IsClaimData names n (verdict.Holds splits None) d = (words : List ℕ) × (d ≡ held_data n splits words)
-IsClaimData names n (verdict.Holds splits (Some why)) d = (words : List ℕ) × (d ≡ empty_data n (why_data names why) splits words)
-IsClaimData names n (verdict.Fails run) d =
-    (words : List ℕ) × (there : Data) × IsRunData names run there × (d ≡ failed_data n there words)
-IsClaimData names n (verdict.Unknown tried) d = (words : List ℕ) × (d ≡ unknown_data n words (tried_data tried))
+abbrev pub IsClaimData : Names → ℕ → Claim → Verdict → Data → Type 0
+IsClaimData names n claim (verdict.Holds splits None) d = d ≡ held_data n splits (claim_words names claim)
+IsClaimData names n claim (verdict.Holds splits (Some why)) d =
+    d ≡ empty_data n (why_data names why) splits (claim_words names claim)
+IsClaimData names n claim (verdict.Fails run) d =
+    (there : Data) × IsRunData names run there × (d ≡ failed_data n there (claim_words names claim))
+IsClaimData names n claim (verdict.Unknown tried) d = d ≡ unknown_data n (claim_words names claim) (tried_data tried)
 
 -- the value with the name of the claim, if it has one
-abbrev pub IsNamed : Data → Data → Type 0
-IsNamed plain d = (d ≡ plain) ⊎ ((name : List ℕ) × (ms : Members) × (plain ≡ object ms) × (d ≡ object (put (codes "name") (string name) ms)))
+abbrev pub IsNamed : Option (List ℕ) → Data → Data → Type 0
+IsNamed None plain d = d ≡ plain
+IsNamed (Some name) plain d = (ms : Members) × (plain ≡ object ms) × (d ≡ object (put (codes "name") (string name) ms))
 
 -- the value for the claim of this number says what its verdict says, and its name, if it has one
-abbrev pub IsNamedData : Names → ℕ → Verdict → Data → Type 0
-IsNamedData names n v d = (plain : Data) × IsClaimData names n v plain × IsNamed plain d
+abbrev pub IsNamedData : Names → ℕ → Told → Data → Type 0
+IsNamedData names n told d = (plain : Data) × IsClaimData names n told.claim told.verdict plain × IsNamed told.name plain d
 
 -- how many claims there are, and how many of each word
 abbrev pub sums_data : List Verdict → Data
@@ -93,7 +103,7 @@ abbrev pub verdicts_data : List Data → List Verdict → Data
 verdicts_data claims verdicts = object (member (codes "claims") (array (items_of claims)) (member (codes "sums") (sums_data verdicts) no_members))
 
 -- the text is read as a value that says of each claim what its verdict says, in their order; a line break follows
-abbrev pub IsJson : Names → List Verdict → List ℕ → Type 0
-IsJson names verdicts text =
-    (claims : List Data) × (json : List ℕ) × AreNumbered (IsNamedData names) 1 verdicts claims
-    × (read json ≡ Some (verdicts_data claims verdicts)) × (text ≡ json ++ codes "\n")
+abbrev pub IsJson : Names → List Told → List Verdict → List ℕ → Type 0
+IsJson names claims verdicts text =
+    (values : List Data) × (json : List ℕ) × AreNumbered (IsNamedData names) 1 claims values
+    × (read json ≡ Some (verdicts_data values verdicts)) × (text ≡ json ++ codes "\n")

@@ -1,11 +1,15 @@
 -- The verdicts as test cases, in the form of JUnit.
-use Rattle.std.specs.Prelude.{◌≡◌, ℕ, ◌-◌, List, ◌++◌, codes, decimal, flat_map, length, string_bytes}
+use Rattle.std.specs.Prelude.{◌≡◌, ℕ, ◌-◌, ◌==◌, List, ◌++◌, codes, decimal, flat_map, length, string_bytes, if◌then◌else◌}
+use Rattle.std.specs.Char.{encode_utf8}
+use Rattle.tpl_draft.specs.Named.{Names}
+use Rattle.tpl_reasons.specs.Spelling.{spelled_by}
 use Rattle.tpl_verify.specs.declared.verdict.Verdict.{Verdict}
 use Rattle.tpl_verdicts.specs.declared.entry.Entry.{Entry}
 use Rattle.tpl_verdicts.specs.declared.word.Word.{Word}
 use Rattle.tpl_verdicts.specs.declared.word.Word.TheVariants.{Holds, Fails, Empty, Unknown}
-use Rattle.tpl_verdicts.specs.Words.{count_of, word_of, word_text}
-use Rattle.tpl_verdicts.specs.Lines.{AreNumbered}
+use Rattle.tpl_verdicts.specs.Told.{Told}
+use Rattle.tpl_verdicts.specs.Words.{count_of, word_text}
+use Rattle.tpl_verdicts.specs.Lines.{AreNumbered, IsEntry}
 
 -- what is said where a claim doesn't hold, or says nothing
 abbrev pub message : Word → List ℕ
@@ -26,10 +30,26 @@ outcome_text Fails lines = failure_text Fails lines
 outcome_text Empty lines = failure_text Empty lines
 outcome_text Unknown lines = failure_text Unknown lines
 
+-- the character that stands for one that XML has no place for
+abbrev pub replacement : ℕ
+replacement = 0xFFFD
+
+-- a character that isn't a control character, as it stands in XML, between tags or in an attribute. XML has no place for
+-- U+FFFE and U+FFFF
+abbrev pub xml_letter : ℕ → List ℕ
+xml_letter c =
+    if c == 38 then codes "&amp;"
+    else (if c == 60 then codes "&lt;" else (if c == 62 then codes "&gt;" else (if c == 34 then codes "&quot;"
+    else (if c == 0xFFFE then encode_utf8 replacement else (if c == 0xFFFF then encode_utf8 replacement else encode_utf8 c)))))
+
+-- the text as it stands in XML
+abbrev pub xml : List ℕ → List ℕ
+xml text = spelled_by xml_letter text
+
 -- the test case of a claim
 abbrev pub case_text : Entry → List ℕ
 case_text entry =
-    codes "<testcase classname=\"claims\" name=\"claim " ++ (decimal entry.number ++ (string_bytes entry.title ++ (codes ": " ++ (string_bytes entry.words ++ (codes "\" time=\"0\"" ++ outcome_text entry.word (flat_map (λ line. string_bytes line) entry.lines.items))))))
+    codes "<testcase classname=\"claims\" name=\"claim " ++ (decimal entry.number ++ (xml (string_bytes entry.title) ++ (codes ": " ++ (xml (string_bytes entry.words) ++ (codes "\" time=\"0\"" ++ outcome_text entry.word (flat_map (λ line. xml (string_bytes line)) entry.lines.items))))))
 
 -- what stands before the first test case
 abbrev pub opening : List Verdict → List ℕ
@@ -40,12 +60,8 @@ opening verdicts =
 abbrev pub closing : List ℕ
 closing = codes "<system-out/>\n<system-err/>\n</testsuite>\n</testsuites>\n"
 
--- the test case is that of the claim of this number, on which this is the verdict
-abbrev pub IsCase : ℕ → Verdict → Entry → Type 0
-IsCase number v entry = (entry.number ≡ number) × (entry.word ≡ word_of v)
-
 -- the text has a test case for each claim, which says what its verdict says, in their order
-abbrev pub IsJunit : List Verdict → List ℕ → Type 0
-IsJunit verdicts text =
-    (cases : List Entry) × AreNumbered IsCase 1 verdicts cases
-    × (text ≡ opening verdicts ++ flat_map case_text cases ++ closing)
+abbrev pub IsJunit : Names → List Told → List Verdict → List ℕ → Type 0
+IsJunit names claims verdicts text =
+    (entries : List Entry) × AreNumbered (IsEntry names) 1 claims entries
+    × (text ≡ opening verdicts ++ flat_map case_text entries ++ closing)

@@ -1,7 +1,9 @@
 pub mod Words
+pub mod Told
 pub mod Judgements
 pub mod Lines
 pub mod Junit
 pub mod Json
+pub mod Html
 pub mod Answer
 pub mod Prelude

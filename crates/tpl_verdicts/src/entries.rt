@@ -1,7 +1,7 @@
 //! What is said of the claims, one after another.
 
-ghost use Rattle.std.specs.Prelude.{IfOk};
-ghost use Rattle.tpl_verdicts.specs.Prelude.{AreNumbered, AreRight, IsEntry, IsRight};
+ghost use Rattle.std.specs.Prelude.{◌≡◌, IfOk, option_map, string_bytes};
+ghost use Rattle.tpl_verdicts.specs.Prelude.{AreNumbered, AreRight, IsEntry, IsRight, all_told, title, told_of};
 
 use crate::entry::Entry;
 use crate::judgement::{Judgement, Judgements};
@@ -11,7 +11,10 @@ use std::alloc::{AllocError, Global};
 use tpl_reasons::{claim_words, said_name};
 
 /// The name of a claim in quotes behind a space; nothing for a claim without a name.
-fn title_of(alloc: Global, name: Option<&str>) -> Result<String, AllocError> {
+fn title_of(alloc: Global, name: Option<&str>) -> Result<String, AllocError>
+    ensures { IfOk result (λ text.
+        string_bytes text ≡ title (option_map (λ given. given.now) name.entry)) }
+{
     match name {
         Some(name) => {
             let name = said_name(alloc, name)?;
@@ -25,7 +28,7 @@ fn title_of(alloc: Global, name: Option<&str>) -> Result<String, AllocError> {
 fn entry_of(alloc: Global, judgement: &Judgement<'_>) -> Result<Entry, AllocError>
     requires { IsRight judgement.now }
     ensures { IfOk result (IsEntry judgement.now.graph.now.names judgement.now.number
-        judgement.now.verdict.now) }
+        (told_of judgement.now)) }
 {
     let title = title_of(alloc, judgement.name)?;
     let words = claim_words(alloc, judgement.graph, judgement.claim)?;
@@ -43,7 +46,7 @@ fn entry_of(alloc: Global, judgement: &Judgement<'_>) -> Result<Entry, AllocErro
 pub(crate) fn entries(alloc: Global, all: &Judgements<'_>) -> Result<Vec<Entry>, AllocError>
     requires { AreRight all.now }
     ensures { IfOk result (λ entries.
-        AreNumbered (IsEntry all.now.graph.now.names) 1 all.now.verdicts.now entries.items) }
+        AreNumbered (IsEntry all.now.graph.now.names) 1 (all_told all.now) entries.items) }
 {
     let mut entries = Vec::new(alloc);
     for place in 0..all.verdicts.len() {

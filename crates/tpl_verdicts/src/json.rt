@@ -1,23 +1,22 @@
 //! The verdicts as one JSON object.
 
-ghost use Rattle.std.specs.Prelude.{◌≡◌, codes, length, map, IfOk, string_bytes, All};
+ghost use Rattle.std.specs.Prelude.{◌≡◌, codes, length, map, option_map, IfOk, string_bytes, All};
 ghost use Rattle.serde_json.specs.Data.{member, no_members, object, string, Members};
 ghost use Rattle.serde_json.specs.View.{view};
 ghost use Rattle.tpl_graph.specs.Prelude.{Fits};
 ghost use Rattle.tpl_journal.specs.Prelude.{CanSpell};
-ghost use Rattle.tpl_journal.specs.Lines.{task_name};
-ghost use Rattle.tpl_model.specs.Prelude.{is_task};
-ghost use Rattle.tpl_verdicts.specs.Prelude.{AreNumbered, AreRight, IsClaimData, IsJson, IsNamed, IsNamedData, IsRight, IsRunData, empty_data, failed_data, held_data, ran_out_word, sums_data, tried_data, unknown_data, verdicts_data, why_data};
+ghost use Rattle.tpl_verdicts.specs.Prelude.{AreNumbered, AreRight, IsClaimData, IsJson, IsNamed, IsNamedData, IsRight, IsRunData, all_told, empty_data, failed_data, held_data, ran_out_word, sums_data, tried_data, unknown_data, verdicts_data, why_data};
 ghost use Rattle.tpl_verify.specs.Prelude.{AreFirst, IsEmpty};
 
 use crate::judgement::{Judgement, Judgements};
+use crate::reason::name_of;
 use crate::sums::sums_of;
 use serde_json::{Value, json};
 use std::alloc::{AllocError, Global};
 use tpl_analyser::RanOut;
 use tpl_graph::{Claim, Graph};
 use tpl_journal::spells_run;
-use tpl_model::{Inputs, TaskId};
+use tpl_model::Inputs;
 use tpl_reasons::claim_words;
 use tpl_refute::Counterexample;
 use tpl_verify::{Empty, Tried, Verdict, input_members, journal_text};
@@ -30,21 +29,12 @@ fn reason_value(alloc: Global, why: &str) -> Result<Value, AllocError>
     json!(in alloc; {"why": why})
 }
 
-/// That a task never begins, by its name.
-fn never_value(alloc: Global, task: &str) -> Result<Value, AllocError>
+/// Why a claim says nothing, by a word and the name of a task.
+fn task_value(alloc: Global, task: &str, why: &str) -> Result<Value, AllocError>
     ensures { IfOk result (λ v. view v ≡ object (member (codes "task") (string task.now)
-        (member (codes "why") (string (codes "NeverBegins")) no_members))) }
+        (member (codes "why") (string why.now) no_members))) }
 {
-    json!(in alloc; {"task": task, "why": "NeverBegins"})
-}
-
-/// The name of a task whose begin the claim needs to say something.
-fn name_of(graph: &Graph, task: TaskId) -> &str
-    requires { is_task graph.now.graph task.0 }
-    ensures { result.now ≡ task_name graph.now.names task }
-{
-    graph.valid_law();
-    graph.name(task)
+    json!(in alloc; {"task": task, "why": why})
 }
 
 /// Why a claim says nothing.
@@ -55,9 +45,12 @@ fn why_value(alloc: Global, graph: &Graph, claim: &Claim, why: Empty) -> Result<
 {
     let _ = claim;
     match why {
-        Empty::NeverBegins(task) => never_value(alloc, name_of(graph, task)),
+        Empty::NeverBegins(task) => task_value(alloc, name_of(graph, task), "NeverBegins"),
         Empty::NamesAllEnds => reason_value(alloc, "NamesAllEnds"),
+        Empty::NamesGivenEnds => reason_value(alloc, "NamesGivenEnds"),
         Empty::NeverThrows => reason_value(alloc, "NeverThrows"),
+        Empty::NeverEndsSo(task) => task_value(alloc, name_of(graph, task), "NeverEndsSo"),
+        Empty::NeverEnds(task) => task_value(alloc, name_of(graph, task), "NeverEnds"),
         Empty::NeverKept => reason_value(alloc, "NeverKept"),
     }
 }
@@ -151,7 +144,7 @@ fn unknown_value(
 fn claim_value(alloc: Global, judgement: &Judgement<'_>) -> Result<Value, AllocError>
     requires { IsRight judgement.now }
     ensures { IfOk result (λ v. IsClaimData judgement.now.graph.now.names judgement.now.number
-        judgement.now.verdict.now (view v)) }
+        judgement.now.claim.now judgement.now.verdict.now (view v)) }
 {
     spells_run();
     let Judgement {
@@ -186,7 +179,8 @@ fn claim_value(alloc: Global, judgement: &Judgement<'_>) -> Result<Value, AllocE
 
 /// The value with this name of its claim.
 fn named(alloc: Global, value: Value, name: &str) -> Result<Value, AllocError>
-    ensures { IfOk result (λ v. IsNamed (view value) (view v)) }
+    requires { (ms : Members) × (view value ≡ object ms) }
+    ensures { IfOk result (λ v. IsNamed (Some name.now) (view value) (view v)) }
 {
     let mut value = value;
     if let Some(members) = value.as_object_mut() {
@@ -198,7 +192,9 @@ fn named(alloc: Global, value: Value, name: &str) -> Result<Value, AllocError>
 
 /// The value with the name of its claim, if that has one.
 fn with_name(alloc: Global, value: Value, name: Option<&str>) -> Result<Value, AllocError>
-    ensures { IfOk result (λ v. IsNamed (view value) (view v)) }
+    requires { (ms : Members) × (view value ≡ object ms) }
+    ensures { IfOk result (λ v.
+        IsNamed (option_map (λ given. given.now) name.entry) (view value) (view v)) }
 {
     match name {
         Some(name) => named(alloc, value, name),
@@ -210,7 +206,7 @@ fn with_name(alloc: Global, value: Value, name: Option<&str>) -> Result<Value, A
 fn claim_values(alloc: Global, all: &Judgements<'_>) -> Result<Vec<Value>, AllocError>
     requires { AreRight all.now }
     ensures { IfOk result (λ values. AreNumbered (IsNamedData all.now.graph.now.names) 1
-        all.now.verdicts.now (map view values.items)) }
+        (all_told all.now) (map view values.items)) }
 {
     let mut values = Vec::new(alloc);
     for place in 0..all.verdicts.len() {
@@ -245,7 +241,8 @@ fn whole_value(alloc: Global, claims: Vec<Value>, verdicts: &[Verdict]) -> Resul
 pub(crate) fn json_of(alloc: Global, all: &Judgements<'_>) -> Result<String, AllocError>
     requires { AreRight all.now }
     ensures { IfOk result (λ text.
-        IsJson all.now.graph.now.names all.now.verdicts.now (string_bytes text)) }
+        IsJson all.now.graph.now.names (all_told all.now) all.now.verdicts.now
+        (string_bytes text)) }
 {
     let values = claim_values(alloc, all)?;
     let mut text = whole_value(alloc, values, all.verdicts)?.to_string(alloc)?;

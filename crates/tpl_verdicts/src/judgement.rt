@@ -1,7 +1,7 @@
 //! What was found of the claims of a graph.
 
-ghost use Rattle.std.specs.Prelude.{◌≡◌, ◌+◌, ◌<◌, length, slice_index_or};
-ghost use Rattle.tpl_verdicts.specs.Prelude.{AreRight, IsRight};
+ghost use Rattle.std.specs.Prelude.{◌≡◌, ◌+◌, ◌<◌, length, map, option_map, slice_get, slice_index_or, string_bytes};
+ghost use Rattle.tpl_verdicts.specs.Prelude.{AreRight, IsRight, all_told, told_of};
 
 use crate::searched::Searched;
 use tpl_graph::{Claim, Graph};
@@ -32,6 +32,17 @@ pub(crate) struct Judgements<'d> {
     pub(crate) searched: Searched,
 }
 
+/// The name at this place, if there is one.
+fn name_at(names: &[Option<String>], place: usize) -> Option<&str>
+    ensures { option_map (λ name. name.now) result
+        ≡ slice_index_or (map (λ name. option_map string_bytes name) names.now) place None }
+{
+    match names.get(place) {
+        Some(Some(name)) => Some(name.as_str()),
+        _ => None,
+    }
+}
+
 impl<'d> Judgements<'d> {
     /// The one at this place.
     pub(crate) fn at(&self, place: usize) -> Judgement<'d>
@@ -40,8 +51,7 @@ impl<'d> Judgements<'d> {
         ensures right { IsRight result }
         ensures graph { result.graph.now ≡ self.now.graph.now }
         ensures number { result.number ≡ place + 1 }
-        ensures verdict { result.verdict.now
-            ≡ slice_index_or self.now.verdicts.now place result.verdict.now }
+        ensures told { slice_get (all_told self.now) place ≡ Some (told_of result) }
     {
         let Judgements {
             graph,
@@ -50,10 +60,7 @@ impl<'d> Judgements<'d> {
             verdicts,
             searched,
         } = *self;
-        let name = match names.get(place) {
-            Some(Some(name)) => Some(name.as_str()),
-            _ => None,
-        };
+        let name = name_at(names, place);
         Judgement {
             graph,
             number: place + 1,

@@ -2,7 +2,7 @@
 //! constants, so that the same verdicts give the same bytes.
 
 ghost use Rattle.std.specs.Prelude.{◌≡◌, ◌++◌, flat_map, IfOk, OnOk, string_bytes};
-ghost use Rattle.tpl_verdicts.specs.Prelude.{AreNumbered, AreRight, IsCase, IsJunit, case_text, failure_text, message, opening, outcome_text};
+ghost use Rattle.tpl_verdicts.specs.Prelude.{AreRight, IsJunit, all_told, case_text, failure_text, message, opening, outcome_text, xml, xml_letter};
 
 use crate::entries::entries;
 use crate::entry::Entry;
@@ -15,38 +15,35 @@ use tpl_verify::Verdict;
 /// What stands behind the last test case.
 const CLOSING: &str = "<system-out/>\n<system-err/>\n</testsuite>\n</testsuites>\n";
 
-/// The text as it stands in XML, between tags or in an attribute.
-fn escaped(alloc: Global, text: &str) -> Result<String, AllocError> {
-    let text = text.replace(alloc, '&', "&amp;")?;
-    let text = text.as_str().replace(alloc, '<', "&lt;")?;
-    let text = text.as_str().replace(alloc, '>', "&gt;")?;
-    text.as_str().replace(alloc, '"', "&quot;")
-}
+/// What stands for a character that no XML text may have.
+const REPLACEMENT: char = '\u{FFFD}';
 
-/// The lines as they stand in XML.
-fn escaped_lines(alloc: Global, lines: &[String]) -> Result<Vec<String>, AllocError> {
-    let mut all = Vec::new(alloc);
-    for line in lines {
-        all.push(escaped(alloc, line.as_str())?)?;
-    }
-    Ok(all)
-}
-
-/// What is said of a claim, as it stands in XML.
-fn escaped_entry(alloc: Global, entry: &Entry) -> Result<Entry, AllocError>
-    ensures { IfOk result (λ other.
-        (other.number ≡ entry.now.number) × (other.word ≡ entry.now.word)) }
+/// Adds a character as it stands in XML, between tags or in an attribute. It is no control character. What else XML 1.0
+/// (2.2, "Characters") has no place for are U+FFFE and U+FFFF: in place of each stands U+FFFD.
+fn add_letter(text: &mut String, letter: char) -> Result<(), AllocError>
+    ensures { OnOk result
+        (string_bytes text.new ≡ string_bytes text.old ++ xml_letter letter) }
 {
-    let title = escaped(alloc, entry.title.as_str())?;
-    let words = escaped(alloc, entry.words.as_str())?;
-    let lines = escaped_lines(alloc, &entry.lines)?;
-    Ok(Entry {
-        number: entry.number,
-        title,
-        word: entry.word,
-        words,
-        lines,
-    })
+    match letter {
+        '&' => text.push_str("&amp;"),
+        '<' => text.push_str("&lt;"),
+        '>' => text.push_str("&gt;"),
+        '"' => text.push_str("&quot;"),
+        '\u{FFFE}' => text.push(REPLACEMENT),
+        '\u{FFFF}' => text.push(REPLACEMENT),
+        _ => text.push(letter),
+    }
+}
+
+/// The text as it stands in XML, between tags or in an attribute.
+fn escaped(alloc: Global, text: &str) -> Result<String, AllocError>
+    ensures { IfOk result (λ escaped. string_bytes escaped ≡ xml text.now) }
+{
+    let mut escaped = String::new(alloc);
+    for letter in text.chars() {
+        add_letter(&mut escaped, letter)?;
+    }
+    Ok(escaped)
 }
 
 /// What is said where a claim doesn't hold, or says nothing.
@@ -81,13 +78,14 @@ fn outcome_text(alloc: Global, word: Word, lines: &str) -> Result<String, AllocE
     }
 }
 
-/// The lines, one after another.
+/// The lines as they stand in XML, one after another.
 fn joined(alloc: Global, lines: &[String]) -> Result<String, AllocError>
     ensures { IfOk result (λ text.
-        string_bytes text ≡ flat_map (λ line. string_bytes line) lines.now) }
+        string_bytes text ≡ flat_map (λ line. xml (string_bytes line)) lines.now) }
 {
     let mut text = String::new(alloc);
     for line in lines {
+        let line = escaped(alloc, line.as_str())?;
         text.push_str(line.as_str())?;
     }
     Ok(text)
@@ -99,25 +97,12 @@ fn case_text(alloc: Global, entry: &Entry) -> Result<String, AllocError>
 {
     let lines = joined(alloc, &entry.lines)?;
     let outcome = outcome_text(alloc, entry.word, lines.as_str())?;
-    let (number, title) = (entry.number, entry.title.as_str());
-    let words = entry.words.as_str();
+    let title = escaped(alloc, entry.title.as_str())?;
+    let words = escaped(alloc, entry.words.as_str())?;
+    let number = entry.number;
     format!(in alloc;
         "<testcase classname=\"claims\" name=\"claim {number}{title}: {words}\" time=\"0\"{outcome}"
     )
-}
-
-/// What is said of each claim, as it stands in XML.
-fn cases(alloc: Global, all: &Judgements<'_>) -> Result<Vec<Entry>, AllocError>
-    requires { AreRight all.now }
-    ensures { IfOk result (λ cases. AreNumbered IsCase 1 all.now.verdicts.now cases.items) }
-{
-    let entries = entries(alloc, all)?;
-    let mut cases = Vec::new(alloc);
-    for entry in &entries {
-        let case = escaped_entry(alloc, entry)?;
-        cases.push(case)?;
-    }
-    Ok(cases)
 }
 
 /// What stands before the first test case.
@@ -132,12 +117,12 @@ fn opening(alloc: Global, verdicts: &[Verdict]) -> Result<String, AllocError>
 }
 
 /// Adds the test case of each claim.
-fn add_cases(text: &mut String, alloc: Global, cases: &[Entry]) -> Result<(), AllocError>
+fn add_cases(text: &mut String, alloc: Global, entries: &[Entry]) -> Result<(), AllocError>
     ensures { OnOk result (string_bytes text.new
-        ≡ string_bytes text.old ++ flat_map case_text cases.now) }
+        ≡ string_bytes text.old ++ flat_map case_text entries.now) }
 {
-    for case in cases {
-        text.push_str(case_text(alloc, case)?.as_str())?;
+    for entry in entries {
+        text.push_str(case_text(alloc, entry)?.as_str())?;
     }
     Ok(())
 }
@@ -145,11 +130,13 @@ fn add_cases(text: &mut String, alloc: Global, cases: &[Entry]) -> Result<(), Al
 /// The verdicts on the claims as test cases.
 pub(crate) fn junit_of(alloc: Global, all: &Judgements<'_>) -> Result<String, AllocError>
     requires { AreRight all.now }
-    ensures { IfOk result (λ text. IsJunit all.now.verdicts.now (string_bytes text)) }
+    ensures { IfOk result (λ text.
+        IsJunit all.now.graph.now.names (all_told all.now) all.now.verdicts.now
+        (string_bytes text)) }
 {
-    let cases = cases(alloc, all)?;
+    let entries = entries(alloc, all)?;
     let mut text = opening(alloc, all.verdicts)?;
-    add_cases(&mut text, alloc, &cases)?;
+    add_cases(&mut text, alloc, &entries)?;
     text.push_str(CLOSING)?;
     Ok(text)
 }

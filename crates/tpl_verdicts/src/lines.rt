@@ -1,46 +1,32 @@
 //! The lines that belong to a claim's line.
 
-ghost use Rattle.std.specs.Prelude.{◌≡◌, ◌++◌, map, IfOk, OnOk, string_bytes, All};
+ghost use Rattle.std.specs.Prelude.{◌≡◌, ◌++◌, ◌∷◌, [], map, IfOk, OnOk, string_bytes, All};
 ghost use Rattle.tpl_graph.specs.Prelude.{Fits};
 ghost use Rattle.tpl_journal.specs.Prelude.{CanSpell, line};
-ghost use Rattle.tpl_verdicts.specs.Prelude.{AreLines, IsRight};
+ghost use Rattle.tpl_verdicts.specs.Prelude.{AreLines, IsRight, inputs_lines};
 
 use crate::judgement::Judgement;
+use crate::reason::why_line;
 use std::alloc::{AllocError, Global};
 use std::slice;
-use tpl_graph::{Claim, Graph};
+use tpl_graph::Graph;
 use tpl_journal::spells_run;
-use tpl_model::{Event, Inputs, Property};
+use tpl_model::{Event, Inputs};
 use tpl_reasons::{claim_words, input_words, obstacle_words, tried_words};
 use tpl_refute::Counterexample;
-use tpl_verify::{Empty, Tried, Verdict, journal_text};
+use tpl_verify::{Tried, Verdict, journal_text};
 
 /// What may be done about a claim of which nothing is known.
 const NEXT: &str =
     "it may hold: ask it under a `given`; it may fail: try more `--runs`, or another `--seed`\n";
 
 /// One line, as it is.
-fn one_line(alloc: Global, line: String) -> Result<Vec<String>, AllocError> {
+fn one_line(alloc: Global, line: String) -> Result<Vec<String>, AllocError>
+    ensures { IfOk result (λ lines. lines.items ≡ line ∷ []) }
+{
     let mut lines = Vec::new(alloc);
     lines.push(line)?;
     Ok(lines)
-}
-
-/// Why a claim that holds says nothing.
-fn empty_lines(alloc: Global, graph: &Graph, empty: Empty) -> Result<Vec<String>, AllocError> {
-    let line = match empty {
-        Empty::NeverBegins(task) => {
-            let never = Claim::new(Vec::new(alloc), Property::Never(task));
-            let words = claim_words(alloc, graph, &never)?;
-            format!(in alloc; "{words}\n")?
-        }
-        Empty::NamesAllEnds => String::from_str(alloc, "it names each way to end\n")?,
-        Empty::NeverThrows => {
-            String::from_str(alloc, "there is never an exception to observe\n")?
-        }
-        Empty::NeverKept => String::from_str(alloc, "no complete run keeps what is given\n")?,
-    };
-    one_line(alloc, line)
 }
 
 /// What was tried for a claim of which nothing is known, and what to do.
@@ -71,7 +57,10 @@ fn unknown_lines(
 }
 
 /// The line for the values of the inputs, if there are any.
-fn input_lines(alloc: Global, graph: &Graph, inputs: &Inputs) -> Result<Vec<String>, AllocError> {
+fn input_lines(alloc: Global, graph: &Graph, inputs: &Inputs) -> Result<Vec<String>, AllocError>
+    ensures { IfOk result (λ lines.
+        map string_bytes lines.items ≡ inputs_lines graph.now.names inputs.now) }
+{
     if inputs.is_empty() {
         return Ok(Vec::new(alloc));
     }
@@ -130,13 +119,21 @@ pub(crate) fn lines_of(alloc: Global, judgement: &Judgement<'_>) -> Result<Vec<S
         judgement.now.verdict.now (map string_bytes lines.items)) }
 {
     spells_run();
-    let Judgement { graph, number, .. } = *judgement;
+    let Judgement {
+        graph,
+        claim,
+        number,
+        ..
+    } = *judgement;
     match judgement.verdict {
         Verdict::Holds { empty: None, .. } => Ok(Vec::new(alloc)),
         Verdict::Holds {
             empty: Some(empty),
             ..
-        } => empty_lines(alloc, graph, *empty),
+        } => {
+            let line = why_line(alloc, graph, claim, *empty)?;
+            one_line(alloc, line)
+        }
         Verdict::Fails(run) => failing_lines(alloc, graph, number, run),
         Verdict::Unknown(tried) => unknown_lines(alloc, judgement, *tried),
     }

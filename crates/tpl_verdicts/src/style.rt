@@ -9,4 +9,6 @@ pub enum Style {
     Json,
     /// A report of test cases, as JUnit writes them.
     Junit,
+    /// A page for a browser, which has the document, too.
+    Html,
 }

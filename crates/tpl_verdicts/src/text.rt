@@ -1,7 +1,7 @@
 //! The verdicts as text, for people.
 
 ghost use Rattle.std.specs.Prelude.{◌≡◌, ◌++◌, flat_map, IfOk, OnOk, string_bytes};
-ghost use Rattle.tpl_verdicts.specs.Prelude.{AreRight, IsText, entry_text, indented};
+ghost use Rattle.tpl_verdicts.specs.Prelude.{AreRight, IsText, all_told, entry_text, indented};
 
 use crate::entries::entries;
 use crate::entry::Entry;
@@ -47,7 +47,8 @@ fn add_entries(text: &mut String, alloc: Global, entries: &[Entry]) -> Result<()
 pub(crate) fn text_of(alloc: Global, all: &Judgements<'_>) -> Result<String, AllocError>
     requires { AreRight all.now }
     ensures { IfOk result (λ text.
-        IsText all.now.graph.now.names all.now.verdicts.now (string_bytes text)) }
+        IsText all.now.graph.now.names (all_told all.now) all.now.verdicts.now
+        (string_bytes text)) }
 {
     let entries = entries(alloc, all)?;
     let mut text = String::new(alloc);

@@ -1,12 +1,13 @@
 -- Verdicts by their places.
 use Rattle.std.proofs.Common.{◌≡◌, ℕ, zero, suc, ◌<◌, Option, Some, None, List, [], ◌∷◌, length, map, refl, ap, arith}
 use Rattle.std.specs.Prelude.{slice_get, slice_index_or}
-use Rattle.std.specs.List.{AllZip}
+use Rattle.std.specs.List.{All, AllZip}
+use Rattle.std.proofs.lemmas.Option.{slice_get-get_or}
 use Rattle.tpl_model.specs.declared.rule_set.RuleSet.{RuleSet}
 use Rattle.tpl_model.specs.Graph.{TaskGraph}
 use Rattle.tpl_model.specs.Claims.{Claim}
 use Rattle.tpl_verify.specs.declared.verdict.Verdict.{Verdict}
-use Rattle.tpl_verify.specs.Verdicts.{IsVerdict}
+use Rattle.tpl_verify.specs.Verdicts.{IsShallow, IsVerdict}
 use Rattle.tpl_verify.specs.Beside.{IsVerdictAt}
 
 -- the verdicts at all places are those on all claims
@@ -18,6 +19,11 @@ zip_places rules g (claim ∷ claims) (v ∷ verdicts) len each = (
   each 0 v refl claim refl,
   zip_places rules g claims verdicts (omega arith) (λ i verdict e. each (suc i) verdict e),
 )
+
+-- the verdict at each place has at most so many splits
+pub shallow_places : (depth : ℕ) (verdicts : List Verdict) → ((i : ℕ) (verdict : Verdict) → slice_get verdicts i ≡ Some verdict → IsShallow depth verdict) → All (IsShallow depth) verdicts
+shallow_places depth verdicts each i other lt =
+    each i (slice_index_or verdicts i other) (slice_get-get_or verdicts i other lt)
 
 pub same_length : (verdicts : List Verdict) (places : List (Option Verdict)) → places ≡ map (λ v. Some v) verdicts → length places ≡ length verdicts
 same_length [] [] e = refl

@@ -8,7 +8,9 @@ use Rattle.tpl_reader.specs.Top as top
 use Rattle.tpl_reader.specs.Top.{whole_at, are_times, text_or_empty, times_or_none, top_at}
 use Rattle.tpl_parts.specs.Start.{NamedStart, start_or_none}
 use Rattle.tpl_reader.specs.Shape.{Spelled, spelled_at}
+use Rattle.tpl_reader.specs.Bytes.{without_returns}
 use Rattle.tpl_reader.specs.Document.{DocumentValue, IsDocument, Reads, Spells}
+use Rattle.tpl_verify.proofs.Plain.{plain_in}
 use Rattle.tpl_json.proofs.Json.{some, get_depth}
 use Rattle.tpl_reader.proofs.Begins.{begin_parts, begin_of}
 use Rattle.tpl_reader.proofs.OneDocument.{value_same}
@@ -42,7 +44,7 @@ module _ (ms : Members) (m : top.Members) (is : top_at (object ms) ≡ Some m) w
       let p = parts_of (object ms) m is in
       let q = p.1 in
       top_put (codes "start") d ms (record m { start = Some d }) refl p.0
-      (record { version = q.version; note = q.note; ended = q.ended; inputs = q.inputs; tokens = q.tokens; tasks = q.tasks; claims = q.claims; certificate = q.certificate; journal = q.journal; times = q.times; start = refl })
+      (record { version = q.version; note = q.note; schema = q.schema; ended = q.ended; inputs = q.inputs; tokens = q.tokens; tasks = q.tasks; claims = q.claims; certificate = q.certificate; journal = q.journal; times = q.times; start = refl })
 
   -- where there are no times of the lines of another journal
   top_journal : (text : List ℕ) → m.times ≡ None → top_at (object (put (codes "journal") (string text) ms)) ≡ Some (record m { journal = text })
@@ -51,7 +53,7 @@ module _ (ms : Members) (m : top.Members) (is : top_at (object ms) ≡ Some m) w
       let q = p.1 in
       let times = any_times m.journal text (get (codes "times") (object ms)) m.times no_times q.times in
       top_put (codes "journal") (string text) ms (record m { journal = text }) refl p.0
-      (record { version = q.version; note = q.note; ended = q.ended; inputs = q.inputs; tokens = q.tokens; tasks = q.tasks; claims = q.claims; certificate = q.certificate; journal = read_journal text; times = times; start = q.start })
+      (record { version = q.version; note = q.note; schema = q.schema; ended = q.ended; inputs = q.inputs; tokens = q.tokens; tasks = q.tasks; claims = q.claims; certificate = q.certificate; journal = read_journal text; times = times; start = q.start })
 
 -- ---- the document with names
 
@@ -93,19 +95,19 @@ spelled_run names values text old new start s no_times is with filled =
 
 -- ---- the document with ids
 
-document_run : (s : Spelled) (doc : DocumentValue) (values : List Bool) (text : List ℕ) (old : Option Data) (new : Data) → IsDocument s doc → length values ≡ length doc.graph.names.inputs
+document_run : (s : Spelled) (doc : DocumentValue) (values : List Bool) (text : List ℕ) (old : Option Data) (new : Data) → IsDocument s doc → without_returns text ≡ text → length values ≡ length doc.graph.names.inputs
     → (has : IsStartWith doc.graph.names.inputs values old new)
     → IsDocument (record s { journal = text; start = Some (named_with (object has.inputs) s.start) }) (record doc { journal = text; start = Some (started doc.start values) })
-document_run s doc values text old new is count has =
+document_run s doc values text old new is plain count has =
     let named = Some (named_with (object has.inputs) s.start) in
     let start = Some (started doc.start values) in
     let parts = begin_parts doc.graph s.start s.ended doc.start is.start in
     let starts = begin_of doc.graph named s.ended start parts.0 (start_value doc.graph values has.inputs s.start doc.start count has.all parts.1) in
-    document_with s doc text text named start s.ended doc.ended s.times doc.times is refl starts is.ended is.times
+    document_with s doc text text named start s.ended doc.ended s.times doc.times is (sym (plain_in s.version text plain)) starts is.ended is.times
 
-pub text_of : (bytes text : List ℕ) (doc : DocumentValue) (values : List Bool) (journal : List ℕ) (old new start : Data) → Spells bytes doc → IsUnseenOf bytes old → Reads text new → length values ≡ length doc.graph.names.inputs
+pub text_of : (bytes text : List ℕ) (doc : DocumentValue) (values : List Bool) (journal : List ℕ) (old new start : Data) → Spells bytes doc → IsUnseenOf bytes old → Reads text new → without_returns journal ≡ journal → length values ≡ length doc.graph.names.inputs
     → IsStartWith doc.graph.names.inputs values (get (codes "start") old) start → IsFilled start journal old new → IsTextOf text (with_run doc values journal)
-text_of bytes text doc values journal old new start spells unseen reads count with filled =
+text_of bytes text doc values journal old new start spells unseen reads plain count with filled =
     let s = record spells.1.2.0 { ended = None; times = None } in
     let is : spelled_at old ≡ Ok s = spelled_unseen unseen.0 old spells.1.2.0 (subst (λ (d : Data). spelled_at d ≡ Ok spells.1.2.0) (value_same bytes spells.1.0 unseen.0 spells.1.1 unseen.1) spells.1.2.1) unseen.2 in
     let doc_unseen = record doc { ended = []; times = None } in (
@@ -114,7 +116,7 @@ text_of bytes text doc values journal old new start spells unseen reads count wi
       (
         record s { journal = journal; start = Some (named_with (object with.inputs) s.start) },
         spelled_run doc.graph.names.inputs values journal old new start s refl is with filled,
-        document_run s doc_unseen values journal (get (codes "start") old) start (document_unseen spells.1.2.0 doc spells.1.2.2) count with,
+        document_run s doc_unseen values journal (get (codes "start") old) start (document_unseen spells.1.2.0 doc spells.1.2.2) plain count with,
       ),
     )
 

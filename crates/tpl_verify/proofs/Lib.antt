@@ -1,5 +1,6 @@
 pub mod BesideLemmas
 pub mod ThrowLemmas
+pub mod EmptyLemmas
 pub mod VerdictLemmas
 pub mod Truths
 pub mod Starts
@@ -9,3 +10,4 @@ pub mod Filling
 pub mod Ascii
 pub mod Auditing
 pub mod Answering
+pub mod Plain

@@ -48,24 +48,24 @@ no_label None none = refl
 no_label (Some lb) none = absurd (none lb refl)
 
 -- what is known is true of each run in which this is given
-known_fits : (wide : Bool) (g : TaskGraph) (given : List Given) (t : ℕ) (v : List Bool) (h : List Event) → IsGiven g v h given → Fits g v h t (known_under wide g given t)
-known_fits wide g given t v h is =
-    let agrees = given_agrees wide g v h given is in
+known_fits : (g : TaskGraph) (given : List Given) (t : ℕ) (v : List Bool) (h : List Event) → IsGiven g v h given → Fits g v h t (known_under g given t)
+known_fits g given t v h is =
+    let agrees = given_agrees g v h given is in
     record {
       own = refl;
       inputs = λ i. agrees.inputs i;
-      quiet = λ k r. elim (cases_Bool ((assumed wide g given).quiet k)) [ inl q ↦ true_false (sym r ∙ agrees.quiet k q) | inr q ↦ q ];
+      quiet = λ k r. elim (cases_Bool ((assumed g given).quiet k)) [ inl q ↦ true_false (sym r ∙ agrees.quiet k q) | inr q ↦ q ];
       subject = λ s f e q. each_end_in f;
-      jobs = λ site e. elim (cases_Bool ((assumed wide g given).sure site)) [ inl q ↦ true_false (sym e ∙ agrees.jobs site q) | inr q ↦ q ];
+      jobs = λ site e. elim (cases_Bool ((assumed g given).sure site)) [ inl q ↦ true_false (sym e ∙ agrees.jobs site q) | inr q ↦ q ];
     }
 
 -- no path of the body throws
-pub throws_nowhere : (wide : Bool) (g : TaskGraph) (given : List Given) (t : ℕ) → IsGraph g → ThrowsNowhere wide g given t → HasNoLabel g given t
-throws_nowhere wide g given t valid none v h run complete is =
+pub throws_nowhere : (g : TaskGraph) (given : List Given) (t : ℕ) → IsGraph g → ThrowsNowhere g given t → HasNoLabel g given t
+throws_nowhere g given t valid none v h run complete is =
     no_label (label g v h t) (λ lb e.
-    let w = known_under wide g given t in
+    let w = known_under g given t in
     let threw = label_verdict (outcome_in (rest g v h t)) lb e in
-    none (lb, (passed g v h t, verdict_path w (body g t) (rest g v h t).outcome (rest g v h t).left (passed g v h t) (Threw lb) threw (follows g v h t w run (known_fits wide g given t v h is) (has_subject_of g t valid)))))
+    none (lb, (passed g v h t, verdict_path w (body g t) (rest g v h t).outcome (rest g v h t).left (passed g v h t) (Threw lb) threw (follows g v h t w run (known_fits g given t v h is) (has_subject_of g t valid)))))
 
 -- the task never ends faulted
 pub never_faults : (g : TaskGraph) (given : List Given) (t : TaskId) (ends : Finals) → has ends Faulted ≡ false → HoldsAlways g (under given (EndsIn t ends)) → HasNoLabel g given t.0

@@ -12,6 +12,7 @@ use Rattle.tpl_reader.specs.Begin.{StartValue, knows_members}
 use Rattle.tpl_reader.specs.Top as top
 use Rattle.tpl_reader.specs.Top.{ends_or_none, times_or_none, top_names, top_at}
 use Rattle.tpl_reader.specs.Shape.{Spelled, spelled_at}
+use Rattle.tpl_reader.specs.Bytes.{journal_in}
 use Rattle.tpl_reader.specs.Document.{DocumentValue, IsDocument, begin_in}
 use Rattle.tpl_reader.specs.Ends.{ends_in}
 use Rattle.tpl_reader.proofs.Begins.{begin_parts, begin_of}
@@ -44,14 +45,14 @@ top_unended ms m is none =
     let p = parts_of (object ms) m is in
     let q = p.1 in
     top_without (codes "ended") ms (record m { ended = None }) none p.0
-    (record { version = q.version; note = q.note; ended = no_ends; inputs = q.inputs; tokens = q.tokens; tasks = q.tasks; claims = q.claims; certificate = q.certificate; journal = q.journal; times = q.times; start = q.start })
+    (record { version = q.version; note = q.note; schema = q.schema; ended = no_ends; inputs = q.inputs; tokens = q.tokens; tasks = q.tasks; claims = q.claims; certificate = q.certificate; journal = q.journal; times = q.times; start = q.start })
 
 top_untimed : (ms : Members) (m : top.Members) → top_at (object ms) ≡ Some m → get (codes "times") (object (without (codes "times") ms)) ≡ None → top_at (object (without (codes "times") ms)) ≡ Some (record m { times = None })
 top_untimed ms m is none =
     let p = parts_of (object ms) m is in
     let q = p.1 in
     top_without (codes "times") ms (record m { times = None }) none p.0
-    (record { version = q.version; note = q.note; ended = q.ended; inputs = q.inputs; tokens = q.tokens; tasks = q.tasks; claims = q.claims; certificate = q.certificate; journal = q.journal; times = no_times m.journal; start = q.start })
+    (record { version = q.version; note = q.note; schema = q.schema; ended = q.ended; inputs = q.inputs; tokens = q.tokens; tasks = q.tasks; claims = q.claims; certificate = q.certificate; journal = q.journal; times = no_times m.journal; start = q.start })
 
 spelled_in : (ms : Members) (s : Spelled) → spelled_at (object ms) ≡ Ok s → get (codes "ended") (object (without (codes "ended") ms)) ≡ None → get (codes "times") (object (without (codes "times") (without (codes "ended") ms))) ≡ None
     → spelled_at (object (without (codes "times") (without (codes "ended") ms))) ≡ Ok (record s { ended = None; times = None })
@@ -68,7 +69,7 @@ spelled_unseen old new s is unseen =
 
 -- the document with all that isn't of a run, and this of another
 pub document_with : (s : Spelled) (doc : DocumentValue) (text journal : List ℕ) (named : Option NamedStart) (start : Option StartValue) (said : Option Data) (ended : List (TaskId × Final)) (given times : Option (List ℕ))
-    → IsDocument s doc → journal ≡ text → begin_in doc.graph named said ≡ Ok start → ended ≡ ends_in doc.graph.names.tasks said → times ≡ given
+    → IsDocument s doc → journal ≡ journal_in s.version text → begin_in doc.graph named said ≡ Ok start → ended ≡ ends_in doc.graph.names.tasks said → times ≡ given
     → IsDocument (record s { journal = text; start = named; ended = said; times = given }) (record doc { journal = journal; start = start; ended = ended; times = times })
 document_with s doc text journal named start said ended given times is reads starts ends timed =
     record { version = is.version; valid = is.valid; graph = is.graph; claims = is.claims; names = is.names; certificate = is.certificate; journal = reads; start = starts; ended = ends; times = timed }

@@ -1,5 +1,5 @@
 -- From what is certified to what is answered.
-use Rattle.std.proofs.Common.{◌≡◌, ℕ, ◌+◌, ◌<◌, ◌++◌, Bool, true, false, is_some, Option, Some, None, List, [], ◌∷◌, length, map, take, subst, sym, refl, arith}
+use Rattle.std.proofs.Common.{◌≡◌, ℕ, ◌+◌, ◌<◌, ◌≤◌, ◌++◌, Bool, true, false, is_some, Option, Some, None, List, [], ◌∷◌, length, map, take, subst, sym, refl, arith}
 use Rattle.std.specs.Prelude.{slice_index_or}
 use Rattle.std.specs.List.{All, AllByRecursion, AllZip}
 use Rattle.tpl_model.specs.declared.ids.TaskId.{TaskId}
@@ -20,18 +20,18 @@ use Rattle.tpl_model.specs.Claims.{Claim}
 use Rattle.tpl_model.specs.declared.rule_set.RuleSet.{RuleSet}
 use Rattle.tpl_model.specs.declared.rule_set.RuleSet.TheVariants.{Narrow, Wide}
 use Rattle.tpl_model.specs.Certificate.{Tree, Accepts}
-use Rattle.tpl_model.specs.WiderRules.{WideTree, as_wide_tree}
+use Rattle.tpl_model.specs.WiderRules.{LeastLeaf, WideTree, as_wide_tree}
 use Rattle.tpl_laws.specs.ByRules.{AcceptsBy, SoundByRules}
 use Rattle.tpl_laws.specs.WideTrees.{WidelyAccepts}
 use Rattle.tpl_trees.specs.WideHeights.{wide_height}
 use Rattle.tpl_verify.specs.declared.verdict.Verdict.{Verdict}
 use Rattle.tpl_verify.specs.declared.verdict.Verdict.TheVariants as verdict
 use Rattle.std.proofs.lemmas.List.{take_more}
-use Rattle.std.proofs.lemmas.List.Elements.{recursion_from_All, All-from_recursion}
-use Rattle.tpl_verify.specs.Verdicts.{HoldsAlways, IsCertified, under, IsNeverKept, IsVerdict, HoldsFully}
+use Rattle.std.proofs.lemmas.List.Elements.{All-append, All-from_recursion, recursion_from_All}
+use Rattle.tpl_verify.specs.Verdicts.{HasNoEnd, HoldsAlways, IsCertified, under, IsNeverKept, IsShallow, IsVerdict, HoldsFully, no_end}
 
 -- an accepted certificate of one claim has one tree
-one_plain : (g : TaskGraph) (claim : Claim) (trees : List Tree) → Accepts false g (claim ∷ []) trees → length (map as_wide_tree trees) ≡ 1
+one_plain : (g : TaskGraph) (claim : Claim) (trees : List Tree) → Accepts g (claim ∷ []) trees → length (map as_wide_tree trees) ≡ 1
 one_plain g claim [] accepted = absurd accepted
 one_plain g claim (tree ∷ []) accepted = refl
 one_plain g claim (tree ∷ other ∷ rest) accepted = absurd accepted.1
@@ -62,18 +62,31 @@ certified rules g claim claims trees n e accepted splits =
 pub one_tree : (rules : RuleSet) (g : TaskGraph) (claim : Claim) (claims : List Claim) (trees : List WideTree) → claims ≡ claim ∷ [] → AcceptsBy rules g claims trees → length trees ≡ 1
 one_tree rules g claim claims trees e accepted = one_tree-of rules g claim trees (for_one rules g claim claims trees e accepted)
 
+-- the only tree has at most as many splits as each may have
+pub shallow : (trees : List WideTree) (n depth : ℕ) → length trees ≡ 1 → ((tree : WideTree) → trees ≡ tree ∷ [] → n ≡ wide_height tree) → All (λ tree. wide_height tree ≤ depth) trees → n ≤ depth
+shallow [] n depth one splits all = absurd (omega arith)
+shallow (tree ∷ []) n depth one splits all =
+    let e = splits tree refl in
+    let le : wide_height tree ≤ depth = all 0 tree (omega arith) in
+    omega (arith, e, le)
+shallow (tree ∷ other ∷ rest) n depth one splits all = absurd (omega arith)
+
 -- the same under the same given
-pub likewise : (g : TaskGraph) (other : Claim) (given : List Given) (body : Property TaskId) → other.given ≡ given → other.body ≡ body → HoldsAlways g other → HoldsAlways g (under given body)
-likewise g other given body e f always =
-    subst (λ (x : List Given). HoldsAlways g (under x body)) e (subst (λ (p : Property TaskId). HoldsAlways g (under other.given p)) f always)
+pub likewise : (P : Claim → Type 0) (other : Claim) (given : List Given) (body : Property TaskId) → other.given ≡ given → other.body ≡ body → P other → P (under given body)
+likewise P other given body e f so =
+    subst (λ (x : List Given). P (under x body)) e (subst (λ (p : Property TaskId). P (under other.given p)) f so)
 
 -- its claim holds in each run
 pub always : (rules : RuleSet) (g : TaskGraph) (claim : Claim) (claims : List Claim) (trees : List WideTree) → SoundByRules → IsGraph g → claims ≡ claim ∷ [] → AcceptsBy rules g claims trees → HoldsAlways g claim
 always rules g claim claims trees sound is e accepted v h run = (sound rules g (claim ∷ []) trees is (for_one rules g claim claims trees e accepted) v h run).0
 
--- no end
-abbrev pub no_end : Finals
-no_end = record { ran = false; canceled = false; faulted = false }
+-- the tree without a split is accepted for the claim: it is certified
+pub at_once : (rules : RuleSet) (g : TaskGraph) (claim : Claim) → rules ≡ Wide → WidelyAccepts g (claim ∷ []) (LeastLeaf ∷ []) → IsCertified rules g claim 0
+at_once rules g claim e accepted = subst (λ r. IsCertified r g claim 0) (sym e) (record { tree = LeastLeaf; accepted = accepted; splits = refl })
+
+-- it holds in each run
+pub always_at_once : (g : TaskGraph) (claim : Claim) → SoundByRules → IsGraph g → WidelyAccepts g (claim ∷ []) (LeastLeaf ∷ []) → HoldsAlways g claim
+always_at_once g claim sound is accepted v h run = (sound Wide g (claim ∷ []) (LeastLeaf ∷ []) is accepted v h run).0
 
 no_member : (f : Final) → has no_end f ≡ true → ⊥
 no_member RanToCompletion e = absurd (cc)
@@ -93,7 +106,7 @@ ends_always (WhenAll args) other started = refl
 ends_always (WhenAny args) other started = refl
 
 -- where a task that each complete run has ended never ends, there is no complete run
-pub never_kept : (g : TaskGraph) (given : List Given) (t : TaskId) → is_task g t.0 → ((started : Bool) → to_end (kind g t.0) started ≡ true) → HoldsAlways g (under given (EndsIn t no_end)) → IsNeverKept g given
+pub never_kept : (g : TaskGraph) (given : List Given) (t : TaskId) → is_task g t.0 → ((started : Bool) → to_end (kind g t.0) started ≡ true) → HasNoEnd g given t → IsNeverKept g given
 never_kept g given t is must none v h run complete kept =
     not_ended (ending g v h t.0) (complete t.0 is (must (started g v h t.0))) (none v h run kept)
 
@@ -110,6 +123,12 @@ verdict_more rules g claims verdicts more i claim v lt is so_far one pushed =
     subst (λ (z : List Verdict). AllZip (IsVerdict rules g) (take (i + 1) claims) z) (sym pushed)
     (subst (λ (z : List Claim). AllZip (IsVerdict rules g) z (verdicts ++ v ∷ [])) (sym (take_more claims i claim lt))
     (zip_snoc (IsVerdict rules g) (take i claims) verdicts (slice_index_or claims i claim) v so_far (subst (λ (z : Claim). IsVerdict rules g z v) is one)))
+
+-- the verdict on one claim more has at most so many splits
+pub shallow_more : (depth : ℕ) (verdicts more : List Verdict) (v : Verdict) → All (IsShallow depth) verdicts → IsShallow depth v → more ≡ verdicts ++ v ∷ [] → All (IsShallow depth) more
+shallow_more depth verdicts more v all one pushed =
+    subst (λ (z : List Verdict). All (IsShallow depth) z) (sym pushed)
+    (All-append (IsShallow depth) verdicts (v ∷ []) all (All-from_recursion (IsShallow depth) (v ∷ []) (one, tt)))
 
 -- a claim whose verdict says that it holds does so
 held_always : (rules : RuleSet) (g : TaskGraph) (claim : Claim) (v : Verdict) → IsVerdict rules g claim v → HoldsFully v → HoldsAlways g claim

@@ -1,5 +1,6 @@
 pub mod Verdicts
 pub mod Beside
+pub mod AtHand
 pub mod Asking
 pub mod Filled
 pub mod Witness

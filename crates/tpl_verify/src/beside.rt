@@ -3,18 +3,21 @@
 ghost use Rattle.std.specs.Prelude.{◌≡◌, ◌<◌, ℕ, length, map, IfOk, IfSome, Some, None, slice_get, slice_index_or, All};
 ghost use Rattle.std.specs.List.{AllZip};
 ghost use Rattle.tpl_graph.specs.Prelude.{Fits};
-ghost use Rattle.tpl_verify.specs.Prelude.{IsVerdict, IsVerdictAt};
+ghost use Rattle.tpl_verify.specs.Prelude.{IsAtHand, IsShallow, IsVerdict, IsVerdictAt};
 ghost use Rattle.tpl_verify.specs.declared.verdict.Verdict.{Verdict};
 
 use crate::attend::Attend;
 use crate::limits::Limits;
 use crate::verdict::Verdict;
-use crate::verifying::verify_claim;
+use crate::verifying::{at_hand, verify_claim};
 use std::alloc::{AllocError, Global};
 use std::thread;
 use std::thread::Threads;
+use tpl_checker::Below;
 use tpl_graph::{Claim, Graph};
 use tpl_model::RuleSet;
+use tpl_refute::Seen;
+use tpl_wide::{Unsplit, links};
 
 /// The verdict on the claim at this place; none where memory was refused.
 fn verdict_at<A: Attend>(
@@ -23,15 +26,28 @@ fn verdict_at<A: Attend>(
     claims: &[Claim],
     rules: RuleSet,
     limits: &Limits,
+    unsplit: &Unsplit<'_>,
+    seen: &Seen,
     attend: &A,
     at: usize,
 ) -> Option<Verdict>
     requires claims { All (Fits graph.now.graph) claims.now }
     requires at { at < length claims.now }
-    ensures { IfSome result (IsVerdictAt rules graph.now.graph claims.now at) }
+    requires unsplit { IsAtHand graph.now.graph unsplit.now }
+    ensures verdict { IfSome result (IsVerdictAt rules graph.now.graph claims.now at) }
+    ensures shallow { IfSome result (IsShallow limits.now.depth) }
 {
     let number = at as u64 + 1;
-    match verify_claim(alloc, graph, &claims[at], rules, number, limits) {
+    match verify_claim(
+        alloc,
+        graph,
+        &claims[at],
+        rules,
+        number,
+        limits,
+        unsplit,
+        seen,
+    ) {
         Ok(verdict) => {
             attend.judged(at + 1, &verdict);
             Some(verdict)
@@ -132,6 +148,41 @@ pub fn answers<R: Threads + Sync, F: Fn(usize) -> Option<Verdict> + Sync>(
     Ok(all)
 }
 
+/// The verdicts on the claims, as [`verify_beside`] gives them, with what is made once for all of them.
+fn verdicts_beside<R: Threads + Sync, A: Attend + Sync>(
+    rt: &R,
+    alloc: Global,
+    graph: &Graph,
+    claims: &[Claim],
+    rules: RuleSet,
+    limits: &Limits,
+    jobs: usize,
+    unsplit: &Unsplit<'_>,
+    seen: &Seen,
+    attend: &A,
+) -> Result<Vec<Verdict>, AllocError>
+    requires claims { All (Fits graph.now.graph) claims.now }
+    requires jobs { 0 < jobs }
+    requires unsplit { IsAtHand graph.now.graph unsplit.now }
+    ensures verdicts { IfOk result (λ verdicts.
+        AllZip (IsVerdict rules graph.now.graph) claims.now verdicts.items) }
+    ensures shallow { IfOk result (λ verdicts.
+        All (IsShallow limits.now.depth) verdicts.items) }
+{
+    let answer = |at: usize| -> Option<Verdict>
+        requires { All (Fits graph.now.graph) claims.now × (at < length claims.now)
+            × IsAtHand graph.now.graph unsplit.now }
+        ensures { IfSome result (λ verdict. IsShallow limits.entry.now.depth verdict
+            × IsVerdictAt rules graph.entry.now.graph claims.entry.now at verdict) }
+    {
+        verdict_at(
+            alloc, graph, claims, rules, limits, unsplit, seen, attend, at,
+        )
+    };
+    let verdicts = answers(rt, alloc, claims.len(), jobs, &answer)?;
+    Ok(verdicts)
+}
+
 /// The verdicts on the claims, as [`verify_claim`] gives them, by at most this many threads beside each other. Each comes
 /// from its graph, claim, rules, number and limits alone, and so they are the same for every number of threads, as
 /// [`answers`] says. Who attends is told of each verdict as soon as it is found.
@@ -147,13 +198,16 @@ pub fn verify_beside<R: Threads + Sync, A: Attend + Sync>(
 ) -> Result<Vec<Verdict>, AllocError>
     requires claims { All (Fits graph.now.graph) claims.now }
     requires jobs { 0 < jobs }
-    ensures { IfOk result (λ verdicts.
+    ensures verdicts { IfOk result (λ verdicts.
         AllZip (IsVerdict rules graph.now.graph) claims.now verdicts.items) }
+    ensures shallow { IfOk result (λ verdicts.
+        All (IsShallow limits.now.depth) verdicts.items) }
 {
-    let answer = |at: usize| -> Option<Verdict>
-        requires { All (Fits graph.now.graph) claims.now × (at < length claims.now) }
-        ensures { IfSome result (IsVerdictAt rules graph.entry.now.graph claims.entry.now at) }
-    { verdict_at(alloc, graph, claims, rules, limits, attend, at) };
-    let verdicts = answers(rt, alloc, claims.len(), jobs, &answer)?;
-    Ok(verdicts)
+    let below = Box::new(alloc, Below::of_graph(graph))?;
+    let linked = links(graph);
+    let unsplit = at_hand(alloc, graph, &below, &linked)?;
+    let seen = Seen::of_graph(alloc, graph)?;
+    verdicts_beside(
+        rt, alloc, graph, claims, rules, limits, jobs, &unsplit, &seen, attend,
+    )
 }

@@ -70,6 +70,7 @@ pub(crate) fn certify(
     requires { Fits question.now.graph.now.graph question.now.claim.now }
     ensures certified { IfOk result (IsCertified question.now.rules
         question.now.graph.now.graph question.now.claim.now) }
+    ensures shallow { IfOk result (λ splits. splits ≤ question.now.depth) }
     ensures always { IfOk result (λ splits. HoldsAlways question.now.graph.now.graph
         question.now.claim.now) }
 {
@@ -82,12 +83,25 @@ pub(crate) fn certify(
     Ok(splits_in(&proof))
 }
 
+/// Nothing is given, and in a run that was seen the property isn't true: there is no certificate of it.
+fn is_denied(question: &Question<'_, '_>, body: Property) -> bool {
+    match question.seen {
+        Some(seen) => question.claim.given().is_empty() && seen.denies(body),
+        None => false,
+    }
+}
+
 /// Under what the claim takes as given, this property holds in each run: a certificate says so, which a quick search finds.
 pub(crate) fn is_certified(question: &Question<'_, '_>, body: Property) -> Result<bool, AllocError>
-    ensures { IfOk result (λ found. IsTrue found
+    ensures fits { IfOk result (λ found. IsTrue found
+        → Fits question.now.graph.now.graph (under question.now.claim.now.given body)) }
+    ensures always { IfOk result (λ found. IsTrue found
         → HoldsAlways question.now.graph.now.graph
         (under question.now.claim.now.given body)) }
 {
+    if is_denied(question, body) {
+        return Ok(false);
+    }
     let given = Vec::from_slice(question.alloc, question.claim.given())?;
     let other = Claim::new(given, body);
     if !other.fits(question.graph) {
@@ -99,6 +113,7 @@ pub(crate) fn is_certified(question: &Question<'_, '_>, body: Property) -> Resul
         claim: &other,
         rules: question.rules,
         depth: question.depth,
+        seen: question.seen,
     };
     let mut budget = Budget::new(Unwatched, FEW_LEAVES);
     match certify(&likewise, &mut budget) {

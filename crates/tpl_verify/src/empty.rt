@@ -1,21 +1,25 @@
 //! Why a claim that holds says nothing.
 
 ghost use Rattle.std.specs.Prelude.{◌≡◌, ◌↔◌, Bool, true, IsTrue, IfOk, IfSome, is_some};
+ghost use Rattle.tpl_checker.specs.Prelude.{assumed_of};
 ghost use Rattle.tpl_graph.specs.Prelude.{AreGivenOf, Fits};
-ghost use Rattle.tpl_model.specs.Prelude.{is_task, is_wide, kind, to_end};
-ghost use Rattle.tpl_verify.specs.Prelude.{EndsAnyhow, HasNoLabel, IsEmpty, IsPlainlyEmpty, LacksThrow, NeedsBegin, ThrowsNowhere};
+ghost use Rattle.tpl_model.specs.Prelude.{end_left, has, is_task, kind, to_end};
+ghost use Rattle.tpl_model.specs.declared.finals.Final.{Final};
+ghost use Rattle.tpl_verify.specs.Prelude.{EmptyClaimsHold, EndsAnyhow, EndsAsGiven, HasNoLabel, HoldsAlways, IsEmpty, IsNeverKept, IsPlainlyEmpty, LacksThrow, HasNoEnd, SpeaksOfBegin, SpeaksOfComplete, ThrowsNowhere};
 
 use crate::certifying::is_certified;
+use crate::limits::unsplit;
 use crate::question::Question;
 use crate::verdict::Empty;
 use std::alloc::{AllocError, Global};
-use tpl_analyser::Depth;
-use tpl_checker::assumed;
+use tpl_checker::{Assumptions, assumed, parent};
 use tpl_graph::{Claim, Graph, Kind};
-use tpl_model::{Finals, Given, Property, RuleSet, TaskId, may};
+use tpl_model::{Final, Finals, Given, Property, RuleSet, TaskId, may};
 use tpl_outline::cancels_quiet;
+use tpl_refute::Seen;
 
-/// The most tasks of which it is tried whether they never end.
+/// The most tasks whose bodies request a quiet token of which it is tried whether they never end (this program's own
+/// limit).
 const MOST_TRIED: usize = 32;
 
 /// Each end but `Faulted`.
@@ -39,10 +43,10 @@ const NO_END: Finals = Finals {
     faulted: false,
 };
 
-/// The tasks whose begin the property needs to say something: none, one or two.
+/// The tasks of whose begin alone the property speaks: none, one or two.
 fn needed(body: Property) -> (Option<TaskId>, Option<TaskId>)
-    ensures first { IfSome result.0 (λ t. NeedsBegin body t.0) }
-    ensures second { IfSome result.1 (λ t. NeedsBegin body t.0) }
+    ensures first { IfSome result.0 (λ t. SpeaksOfBegin body t.0) }
+    ensures second { IfSome result.1 (λ t. SpeaksOfBegin body t.0) }
 {
     match body {
         Property::Final(task, ends) => {
@@ -69,12 +73,39 @@ fn ends_anyhow(body: Property) -> bool
     }
 }
 
+/// How the task may end by what is assumed.
+fn ends_left(left: &Assumptions, task: TaskId) -> Finals
+    ensures { (f : Final) → has result f ≡ end_left (assumed_of left.now) task.0 f }
+{
+    Finals {
+        ran: left.may_end(task, Final::RanToCompletion),
+        canceled: left.may_end(task, Final::Canceled),
+        faulted: left.may_end(task, Final::Faulted),
+    }
+}
+
+/// The property lets its task end in each way that what is given leaves.
+fn ends_as_given(question: &Question<'_, '_>) -> bool
+    requires { Fits question.now.graph.now.graph question.now.claim.now }
+    ensures { IsTrue result
+        ↔ EndsAsGiven question.now.claim.now.given question.now.claim.now.body }
+{
+    match question.claim.body() {
+        Property::Final(task, ends) => {
+            let left = assumed(question.graph, question.claim.given());
+            ends_left(&left, task).is_subset(&ends)
+        }
+        _ => false,
+    }
+}
+
 /// Whether this task, if there is one, never begins.
 fn never_begins(
     question: &Question<'_, '_>,
     task: Option<TaskId>,
 ) -> Result<Option<Empty>, AllocError>
-    requires { IfSome task (λ t. NeedsBegin question.now.claim.now.body t.0) }
+    requires speaks { IfSome task (λ t. SpeaksOfBegin question.now.claim.now.body t.0) }
+    requires holds { HoldsAlways question.now.graph.now.graph question.now.claim.now }
     ensures { IfOk result (λ found. IfSome found (IsEmpty question.now.graph.now.graph
         question.now.claim.now)) }
 {
@@ -94,6 +125,7 @@ fn never_begins(
 
 /// Whether a task never begins whose begin the claim needs to say something.
 fn lacks_begin(question: &Question<'_, '_>) -> Result<Option<Empty>, AllocError>
+    requires { HoldsAlways question.now.graph.now.graph question.now.claim.now }
     ensures { IfOk result (λ found. IfSome found (IsEmpty question.now.graph.now.graph
         question.now.claim.now)) }
 {
@@ -105,12 +137,12 @@ fn lacks_begin(question: &Question<'_, '_>) -> Result<Option<Empty>, AllocError>
 }
 
 /// The body of the task can't throw where this is given, whatever its subject does.
-fn throws_nowhere(graph: &Graph, given: &[Given], rules: RuleSet, task: TaskId) -> bool
+fn throws_nowhere(graph: &Graph, given: &[Given], task: TaskId) -> bool
     requires given { AreGivenOf graph.now.graph given.now }
     requires task { is_task graph.now.graph task.0 }
-    ensures { IsTrue result ↔ ThrowsNowhere (is_wide rules) graph.now.graph given.now task.0 }
+    ensures { IsTrue result ↔ ThrowsNowhere graph.now.graph given.now task.0 }
 {
-    let view = assumed(graph, given, rules).view(graph.own_token(task), EACH_END);
+    let view = assumed(graph, given).view(graph.own_token(task), EACH_END);
     !may(graph.body(task), &view).thrown
 }
 
@@ -121,11 +153,11 @@ fn never_throws(question: &Question<'_, '_>, task: TaskId) -> Result<bool, Alloc
     requires task { is_task question.now.graph.now.graph task.0 }
     ensures never { IfOk result (λ never. IsTrue never
         → HasNoLabel question.now.graph.now.graph question.now.claim.now.given task.0) }
-    ensures nowhere { IfOk result (λ never. ThrowsNowhere (is_wide question.now.rules)
+    ensures nowhere { IfOk result (λ never. ThrowsNowhere
         question.now.graph.now.graph question.now.claim.now.given task.0 → IsTrue never) }
 {
     question.graph.valid_law();
-    if throws_nowhere(question.graph, question.claim.given(), question.rules, task) {
+    if throws_nowhere(question.graph, question.claim.given(), task) {
         return Ok(true);
     }
     let body = Property::Final(task, UNFAULTED);
@@ -138,7 +170,7 @@ fn lacks_exception(question: &Question<'_, '_>) -> Result<Option<Empty>, AllocEr
     requires { Fits question.now.graph.now.graph question.now.claim.now }
     ensures empty { IfOk result (λ found. IfSome found (IsEmpty question.now.graph.now.graph
         question.now.claim.now)) }
-    ensures plain { IfOk result (λ found. LacksThrow (is_wide question.now.rules)
+    ensures plain { IfOk result (λ found. LacksThrow
         question.now.graph.now.graph question.now.claim.now → IsTrue (is_some found)) }
 {
     match question.claim.body() {
@@ -169,57 +201,132 @@ fn has_to_end(graph: &Graph, task: TaskId) -> bool
     }
 }
 
-/// Whether this task has ended in each complete run, and never ends where what the claim takes as given is true.
-fn never_ends(question: &Question<'_, '_>, task: TaskId) -> Result<Option<Empty>, AllocError>
-    requires { is_task question.now.graph.now.graph task.0 }
-    ensures { IfOk result (λ found. IfSome found (IsEmpty question.now.graph.now.graph
-        question.now.claim.now)) }
+/// Whether the task never ends where what the claim takes as given is true.
+fn never_ends(question: &Question<'_, '_>, task: TaskId) -> Result<bool, AllocError>
+    ensures { IfOk result (λ never. IsTrue never
+        → HasNoEnd question.now.graph.now.graph question.now.claim.now.given task) }
 {
-    if has_to_end(question.graph, task) {
-        let body = Property::Final(task, NO_END);
-        let never = is_certified(question, body)?;
-        if never {
-            return Ok(Some(Empty::NeverKept));
-        }
-    }
-    Ok(None)
+    let body = Property::Final(task, NO_END);
+    is_certified(question, body)
 }
 
-/// Whether what the claim takes as given is true of no complete run: a task whose body has to request a token that is
-/// given as quiet never ends.
-fn lacks_run(question: &Question<'_, '_>) -> Result<Option<Empty>, AllocError>
-    requires { Fits question.now.graph.now.graph question.now.claim.now }
+/// Whether a task whose ends are given never ends so.
+fn lacks_end(question: &Question<'_, '_>) -> Result<Option<Empty>, AllocError>
+    requires { HoldsAlways question.now.graph.now.graph question.now.claim.now }
     ensures { IfOk result (λ found. IfSome found (IsEmpty question.now.graph.now.graph
         question.now.claim.now)) }
 {
-    let graph = question.graph;
-    let view = assumed(graph, question.claim.given(), question.rules).view(None, NO_END);
-    let mut left = MOST_TRIED;
-    for number in 0..graph.len() {
-        let task = TaskId(number as u16);
-        if left > 0 && cancels_quiet(graph.body(task).body(), &view) {
-            left -= 1;
-            if let Some(empty) = never_ends(question, task)? {
-                return Ok(Some(empty));
+    for given in question.claim.given() {
+        if let Given::Ended(task, _) = given {
+            let never = never_ends(question, *task)?;
+            if never {
+                return Ok(Some(Empty::NeverEndsSo(*task)));
             }
         }
     }
     Ok(None)
 }
 
-/// Why the claim says nothing, where that is certified by trees with at most this many splits on each path. None promises
-/// only that the claim doesn't let its task end anyhow, and doesn't speak of the exception of a body of which no path throws.
-/// Out of memory is the only error.
+/// Whether the claim speaks of how a task ends that never does.
+fn lacks_own_end(question: &Question<'_, '_>) -> Result<Option<Empty>, AllocError>
+    ensures { IfOk result (λ found. IfSome found (IsEmpty question.now.graph.now.graph
+        question.now.claim.now)) }
+{
+    match question.claim.body() {
+        Property::Final(task, _) => {
+            let never = never_ends(question, task)?;
+            if never {
+                Ok(Some(Empty::NeverEnds(task)))
+            } else {
+                Ok(None)
+            }
+        }
+        _ => Ok(None),
+    }
+}
+
+/// Whether the task has ended in each complete run, and never ends where what the claim takes as given is true.
+fn never_complete(question: &Question<'_, '_>, task: TaskId) -> Result<bool, AllocError>
+    requires { is_task question.now.graph.now.graph task.0 }
+    ensures { IfOk result (λ never. IsTrue never
+        → IsNeverKept question.now.graph.now.graph question.now.claim.now.given) }
+{
+    if has_to_end(question.graph, task) {
+        let never = never_ends(question, task)?;
+        return Ok(never);
+    }
+    Ok(false)
+}
+
+/// The property speaks of complete runs alone.
+fn speaks_of_complete(body: Property) -> bool
+    ensures { IsTrue result ↔ SpeaksOfComplete body }
+{
+    matches!(body, Property::Observed(_) | Property::Runs(_))
+}
+
+/// The task itself; of a child the first task above it that is none. Where an attached child never ends, that one doesn't
+/// either, once it has started the child.
+fn above(graph: &Graph, task: TaskId) -> TaskId
+    requires { is_task graph.now.graph task.0 }
+    ensures { is_task graph.now.graph result.0 }
+{
+    let mut top = task;
+    for _ in 0..graph.len() {
+        match (graph.kind(top), parent(graph, top)) {
+            (Kind::Child, Some(parent)) => top = parent,
+            _ => return top,
+        }
+    }
+    top
+}
+
+/// Whether the claim speaks of complete runs alone, and what it takes as given is true of none: a task whose body, or that of
+/// a child of it, has to request a token that is given as quiet never ends.
+fn lacks_run(question: &Question<'_, '_>) -> Result<Option<Empty>, AllocError>
+    requires { Fits question.now.graph.now.graph question.now.claim.now }
+    ensures { IfOk result (λ found. IfSome found (IsEmpty question.now.graph.now.graph
+        question.now.claim.now)) }
+{
+    if !speaks_of_complete(question.claim.body()) {
+        return Ok(None);
+    }
+    let graph = question.graph;
+    let view = assumed(graph, question.claim.given()).view(None, NO_END);
+    let mut left = MOST_TRIED;
+    for number in 0..graph.len() {
+        let task = TaskId(number as u16);
+        if left > 0 && cancels_quiet(graph.body(task).body(), &view) {
+            left -= 1;
+            let never = never_complete(question, above(graph, task))?;
+            if never {
+                return Ok(Some(Empty::NeverKept));
+            }
+        }
+    }
+    Ok(None)
+}
+
+/// An empty claim holds in each run, whatever the reason: a caller that needs it calls this, which does nothing.
+pub fn empty_claims_hold()
+    ensures { EmptyClaimsHold }
+{}
+
+/// Why a claim that holds says nothing, where that is certified without splits. None promises only that the claim doesn't
+/// let its task end anyhow, nor in each way that what is given leaves, and doesn't speak of the exception of a body of which
+/// no path throws. What is said to be empty holds in each run for that reason alone ([`empty_claims_hold`]). Out of memory
+/// is the only error.
 pub fn why_empty(
     alloc: Global,
     graph: &Graph,
     claim: &Claim,
     rules: RuleSet,
-    depth: Depth,
+    seen: Option<&Seen>,
 ) -> Result<Option<Empty>, AllocError>
-    requires { Fits graph.now.graph claim.now }
+    requires fits { Fits graph.now.graph claim.now }
+    requires holds { HoldsAlways graph.now.graph claim.now }
     ensures empty { IfOk result (λ found. IfSome found (IsEmpty graph.now.graph claim.now)) }
-    ensures plain { IfOk result (λ found. IsPlainlyEmpty (is_wide rules) graph.now.graph claim.now
+    ensures plain { IfOk result (λ found. IsPlainlyEmpty graph.now.graph claim.now
         → IsTrue (is_some found)) }
 {
     if ends_anyhow(claim.body()) {
@@ -230,12 +337,22 @@ pub fn why_empty(
         graph,
         claim,
         rules,
-        depth,
+        depth: unsplit(),
+        seen,
     };
     if let Some(empty) = lacks_begin(&question)? {
         return Ok(Some(empty));
     }
+    if ends_as_given(&question) {
+        return Ok(Some(Empty::NamesGivenEnds));
+    }
     if let Some(empty) = lacks_exception(&question)? {
+        return Ok(Some(empty));
+    }
+    if let Some(empty) = lacks_end(&question)? {
+        return Ok(Some(empty));
+    }
+    if let Some(empty) = lacks_own_end(&question)? {
         return Ok(Some(empty));
     }
     lacks_run(&question)

@@ -23,12 +23,14 @@ pub struct Limits {
 
 /// How many leaves are tried in a quick search, and for each claim that makes another one empty (this program's own limit).
 pub(crate) const FEW_LEAVES: Leaves = Leaves {
+    near: 0,
     in_order: 2_000,
     directed: 500,
 };
 
 /// No leaf is tried.
 const NO_LEAVES: Leaves = Leaves {
+    near: 0,
     in_order: 0,
     directed: 0,
 };
@@ -42,8 +44,19 @@ const PLAYED_A_RUN: u64 = 400;
 /// How many random runs are made before a certificate is searched: they refute most false claims.
 const FIRST_RUNS: u32 = 1_000;
 
-/// These runs may play this part of the events that all may.
-const FIRST_PART: u64 = 200;
+/// These runs may play this part of the events that all may, half a second's worth: in a graph of a thousand tasks the search
+/// takes several seconds.
+const FIRST_PART: u64 = 20;
+
+/// No split.
+pub(crate) fn unsplit() -> Depth
+    ensures { result ≡ 0 }
+{
+    match Depth::new(0) {
+        Some(depth) => depth,
+        None => unreachable!(),
+    }
+}
 
 /// The most splits that a certificate may have.
 fn deepest() -> Depth
@@ -91,6 +104,15 @@ impl Limits {
         ensures { (result.runs ≡ runs) × (result.seed ≡ seed) }
     {
         Limits::new(deepest(), NO_LEAVES, runs, seed)
+    }
+
+    /// The leaves that are tried at a glance, before the first random runs: none where no certificate is searched.
+    pub(crate) fn glance(&self) -> Leaves {
+        if self.leaves.in_order == 0 {
+            NO_LEAVES
+        } else {
+            Leaves::GLANCE
+        }
     }
 
     /// The first random runs for the claim of this number. All runs begin with the same ones.

@@ -5,7 +5,7 @@ ghost use Rattle.json.specs.Lex.{tokens};
 ghost use Rattle.json.specs.Print.{print};
 ghost use Rattle.serde_json.specs.Data.{depth};
 ghost use Rattle.serde_json.specs.View.{view};
-ghost use Rattle.tpl_reader.specs.Prelude.{Reads, Spells, doc_of};
+ghost use Rattle.tpl_reader.specs.Prelude.{Reads, Spells, doc_of, without_returns};
 ghost use Rattle.tpl_verify.specs.Prelude.{HasForm, IsFilled, IsTextOf, IsUnseen, IsUnseenOf, with_run};
 
 use crate::start::start_with;
@@ -13,7 +13,7 @@ use serde_json::Value;
 use std::alloc::{AllocError, Global};
 use tpl_json::MOST_NESTED;
 use tpl_model::Inputs;
-use tpl_reader::Document;
+use tpl_reader::{Document, behind_mark};
 
 /// What the bytes of a document read as.
 fn read_value(alloc: Global, bytes: &[u8], document: &Document) -> Result<Value, AllocError>
@@ -22,7 +22,7 @@ fn read_value(alloc: Global, bytes: &[u8], document: &Document) -> Result<Value,
     ensures nests { IfOk result (λ v. depth (view v) ≤ MOST_NESTED) }
 {
     let _ = document;
-    match Value::from_slice(alloc, bytes) {
+    match Value::from_slice(alloc, behind_mark(bytes)) {
         Ok(value) => Ok(value),
         Err(fault) => {
             if fault.is_memory() {
@@ -77,7 +77,7 @@ fn filled(
     Ok(document)
 }
 
-/// A document with these inputs and this journal, as JSON with no space between its tokens, and a line break. Out of memory
+/// A document with these inputs and this journal, of which no line ends with CR LF, as JSON with no space between its tokens, and a line break. Out of memory
 /// is the only error.
 pub fn text_with(
     alloc: Global,
@@ -88,6 +88,7 @@ pub fn text_with(
 ) -> Result<String, AllocError>
     requires spelled { Spells bytes.now (doc_of document.now) }
     requires inputs { length inputs.now ≡ document.now.graph.graph.inputs }
+    requires plain { without_returns (string_bytes journal) ≡ string_bytes journal }
     ensures text { IfOk result (λ text. IsTextOf (string_bytes text)
         (with_run (doc_of document.now) inputs.now (string_bytes journal))) }
     ensures compact { IfOk result (λ text. (json : List ℕ) × (json ≡ print (tokens json))

@@ -29,9 +29,15 @@ pub enum Empty {
     NeverBegins(TaskId),
     /// It lets its task end in each of the three ways.
     NamesAllEnds,
+    /// It lets its task end in each way that what is given leaves.
+    NamesGivenEnds,
     /// The body of its task throws in no complete run of which what is given is true: there is no exception to observe.
     NeverThrows,
-    /// What is given is true of no complete run.
+    /// Ends of this task are given, and in no run of which what is given is true has it ended.
+    NeverEndsSo(TaskId),
+    /// It speaks of how this task ends, which never does where what is given is true.
+    NeverEnds(TaskId),
+    /// It speaks of complete runs alone, and what is given is true of none.
     NeverKept,
 }
 

@@ -1,9 +1,11 @@
 //! The answers to claims, one after another.
 
-ghost use Rattle.std.specs.Prelude.{IfOk, All};
+ghost use Rattle.std.specs.Prelude.{IfOk, IsTrue, All};
 ghost use Rattle.std.specs.List.{AllZip};
+ghost use Rattle.tpl_checker.specs.Prelude.{AreBelow};
 ghost use Rattle.tpl_graph.specs.Prelude.{Fits};
-ghost use Rattle.tpl_verify.specs.Prelude.{IsJudged, IsVerdict};
+ghost use Rattle.tpl_leaf.specs.Prelude.{AreLinks};
+ghost use Rattle.tpl_verify.specs.Prelude.{HoldsAlways, IsAtHand, IsCertified, IsJudged, IsShallow, IsVerdict};
 
 use crate::certifying::certify;
 use crate::empty::why_empty;
@@ -12,9 +14,12 @@ use crate::question::Question;
 use crate::verdict::{Tried, Verdict};
 use std::alloc::{AllocError, Global};
 use tpl_analyser::{Budget, Gap, RanOut, Unwatched};
+use tpl_checker::Below;
 use tpl_graph::{Claim, Graph};
 use tpl_model::RuleSet;
-use tpl_refute::{Effort, refute};
+use tpl_paths::TokenSet;
+use tpl_refute::{Effort, Seen, refute};
+use tpl_wide::{Unsplit, links};
 
 /// The verdict on a claim for which no certificate was found, after these random runs.
 fn tried(
@@ -23,8 +28,9 @@ fn tried(
     ran_out: RanOut,
 ) -> Result<Verdict, AllocError>
     requires { Fits question.now.graph.now.graph question.now.claim.now }
-    ensures { IfOk result (IsJudged question.now.rules question.now.graph.now.graph
+    ensures judged { IfOk result (IsJudged question.now.rules question.now.graph.now.graph
         question.now.claim.now) }
+    ensures shallow { IfOk result (IsShallow question.now.depth) }
 {
     let sought = refute(question.alloc, question.graph, question.claim, effort)?;
     match sought.found {
@@ -44,8 +50,9 @@ fn certified_or_tried(
     limits: &Limits,
 ) -> Result<Verdict, AllocError>
     requires { Fits question.now.graph.now.graph question.now.claim.now }
-    ensures { IfOk result (IsJudged question.now.rules question.now.graph.now.graph
+    ensures judged { IfOk result (IsJudged question.now.rules question.now.graph.now.graph
         question.now.claim.now) }
+    ensures shallow { IfOk result (IsShallow question.now.depth) }
 {
     let mut budget = Budget::new(Unwatched, limits.leaves);
     match certify(question, &mut budget) {
@@ -58,9 +65,29 @@ fn certified_or_tried(
     }
 }
 
-/// The verdict on the claim of this number, within these limits: a few random runs first, then the search for a
-/// certificate, with few splits before many, then all random runs. The number only chooses the random numbers, so the
-/// answer depends on the graph, the claim, its number and the limits alone. Out of memory is the only error.
+/// The verdict on a claim for which a glance found no certificate: a few random runs first, then the search for one.
+fn refuted_or_certified(
+    question: &Question<'_, '_>,
+    number: u64,
+    limits: &Limits,
+) -> Result<Verdict, AllocError>
+    requires { Fits question.now.graph.now.graph question.now.claim.now }
+    ensures judged { IfOk result (IsJudged question.now.rules question.now.graph.now.graph
+        question.now.claim.now) }
+    ensures shallow { IfOk result (IsShallow question.now.depth) }
+{
+    let (alloc, effort) = (question.alloc, limits.first_runs(number));
+    let first = refute(alloc, question.graph, question.claim, effort)?;
+    match first.found {
+        Some(run) => Ok(Verdict::Fails(run)),
+        None => certified_or_tried(question, number, limits),
+    }
+}
+
+/// The verdict on the claim of this number, within these limits: a certificate that a glance finds, without a split or with
+/// one near to the claim's tasks; then a few random runs, then the search for a certificate, with few splits before many,
+/// then all random runs. The number only chooses the random numbers, so the answer depends on the graph, the claim, its
+/// number and the limits alone. Out of memory is the only error.
 ///
 /// `Holds` is said only of a claim that holds in each run of the graph; it isn't asked whether it says nothing. `Fails` is
 /// said only with a run in which it doesn't hold. `Unknown` promises nothing.
@@ -73,26 +100,99 @@ pub fn judge_claim(
     limits: &Limits,
 ) -> Result<Verdict, AllocError>
     requires { Fits graph.now.graph claim.now }
-    ensures { IfOk result (IsJudged rules graph.now.graph claim.now) }
+    ensures judged { IfOk result (IsJudged rules graph.now.graph claim.now) }
+    ensures shallow { IfOk result (IsShallow limits.now.depth) }
 {
-    let first = refute(alloc, graph, claim, limits.first_runs(number))?;
-    match first.found {
-        Some(run) => Ok(Verdict::Fails(run)),
-        None => {
-            let question = Question {
-                alloc,
-                graph,
-                claim,
-                rules,
-                depth: limits.depth,
-            };
-            certified_or_tried(&question, number, limits)
+    let question = Question {
+        alloc,
+        graph,
+        claim,
+        rules,
+        depth: limits.depth,
+        seen: None,
+    };
+    let mut glance = Budget::new(Unwatched, limits.glance());
+    match certify(&question, &mut glance) {
+        Ok(splits) => Ok(Verdict::Holds {
+            splits,
+            empty: None,
+        }),
+        Err(Gap::NotFound { .. }) => refuted_or_certified(&question, number, limits),
+        Err(Gap::Memory) => Err(AllocError),
+    }
+}
+
+/// The tree without a split where nothing is given, for [`verify_claim`].
+pub(crate) fn at_hand<'g>(
+    alloc: Global,
+    graph: &'g Graph,
+    below: &'g Below,
+    linked: &'g [TokenSet],
+) -> Result<Unsplit<'g>, AllocError>
+    requires below { AreBelow graph.now.graph below.now }
+    requires linked { AreLinks graph.now.graph linked.now }
+    ensures { IfOk result (IsAtHand graph.now.graph) }
+{
+    let unsplit = Unsplit::new(alloc, graph, below, linked, &[])?;
+    Ok(unsplit)
+}
+
+/// Nothing is given, and the tree without a split is accepted for the claim: of that tree, which is at hand, it is only read.
+fn is_accepted(
+    alloc: Global,
+    graph: &Graph,
+    claim: &Claim,
+    rules: RuleSet,
+    unsplit: &Unsplit<'_>,
+) -> Result<bool, AllocError>
+    requires fits { Fits graph.now.graph claim.now }
+    requires unsplit { IsAtHand graph.now.graph unsplit.now }
+    ensures certified { IfOk result (λ accepted. IsTrue accepted
+        → IsCertified rules graph.now.graph claim.now 0) }
+    ensures always { IfOk result (λ accepted. IsTrue accepted
+        → HoldsAlways graph.now.graph claim.now) }
+{
+    if !claim.given().is_empty() {
+        return Ok(false);
+    }
+    match rules {
+        RuleSet::Narrow => Ok(false),
+        RuleSet::Wide => {
+            graph.valid_law();
+            tpl_laws::sound_by_rules();
+            let accepted = unsplit.accepts(alloc, claim)?;
+            Ok(accepted)
         }
     }
 }
 
+/// The verdict on the claim of this number, as [`judge_claim`] gives it, and sooner where the tree at hand is accepted.
+fn judge_at_hand(
+    alloc: Global,
+    graph: &Graph,
+    claim: &Claim,
+    rules: RuleSet,
+    number: u64,
+    limits: &Limits,
+    unsplit: &Unsplit<'_>,
+) -> Result<Verdict, AllocError>
+    requires fits { Fits graph.now.graph claim.now }
+    requires unsplit { IsAtHand graph.now.graph unsplit.now }
+    ensures judged { IfOk result (IsJudged rules graph.now.graph claim.now) }
+    ensures shallow { IfOk result (IsShallow limits.now.depth) }
+{
+    if is_accepted(alloc, graph, claim, rules, unsplit)? {
+        return Ok(Verdict::Holds {
+            splits: 0,
+            empty: None,
+        });
+    }
+    judge_claim(alloc, graph, claim, rules, number, limits)
+}
+
 /// The verdict on the claim of this number, as [`judge_claim`] gives it; of a claim that holds also why it is empty, where
-/// that is certified.
+/// that is certified without splits. What is made once for all claims spares searches: the tree without a split where nothing
+/// is given, and what was seen in runs of the graph.
 pub fn verify_claim(
     alloc: Global,
     graph: &Graph,
@@ -100,13 +200,17 @@ pub fn verify_claim(
     rules: RuleSet,
     number: u64,
     limits: &Limits,
+    unsplit: &Unsplit<'_>,
+    seen: &Seen,
 ) -> Result<Verdict, AllocError>
-    requires { Fits graph.now.graph claim.now }
-    ensures { IfOk result (IsVerdict rules graph.now.graph claim.now) }
+    requires fits { Fits graph.now.graph claim.now }
+    requires unsplit { IsAtHand graph.now.graph unsplit.now }
+    ensures verdict { IfOk result (IsVerdict rules graph.now.graph claim.now) }
+    ensures shallow { IfOk result (IsShallow limits.now.depth) }
 {
-    match judge_claim(alloc, graph, claim, rules, number, limits)? {
+    match judge_at_hand(alloc, graph, claim, rules, number, limits, unsplit)? {
         Verdict::Holds { splits, .. } => {
-            let empty = why_empty(alloc, graph, claim, rules, limits.depth)?;
+            let empty = why_empty(alloc, graph, claim, rules, Some(seen))?;
             Ok(Verdict::Holds { splits, empty })
         }
         Verdict::Fails(run) => Ok(Verdict::Fails(run)),
@@ -123,13 +227,28 @@ pub fn verify(
     limits: &Limits,
 ) -> Result<Vec<Verdict>, AllocError>
     requires { All (Fits graph.now.graph) claims.now }
-    ensures { IfOk result (λ verdicts.
+    ensures verdicts { IfOk result (λ verdicts.
         AllZip (IsVerdict rules graph.now.graph) claims.now verdicts.items) }
+    ensures shallow { IfOk result (λ verdicts.
+        All (IsShallow limits.now.depth) verdicts.items) }
 {
+    let below = Box::new(alloc, Below::of_graph(graph))?;
+    let linked = links(graph);
+    let unsplit = at_hand(alloc, graph, &below, &linked)?;
+    let seen = Seen::of_graph(alloc, graph)?;
     let mut verdicts = Vec::new(alloc);
     for at in 0..claims.len() {
         let number = at as u64 + 1;
-        let verdict = verify_claim(alloc, graph, &claims[at], rules, number, limits)?;
+        let verdict = verify_claim(
+            alloc,
+            graph,
+            &claims[at],
+            rules,
+            number,
+            limits,
+            &unsplit,
+            &seen,
+        )?;
         verdicts.push(verdict)?;
     }
     Ok(verdicts)

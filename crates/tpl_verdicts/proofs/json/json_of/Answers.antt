@@ -1,14 +1,14 @@
 use Rattle.std.proofs.Common.{◌≤◌, ◌∙◌, map, sym, subst, string_bytes, ap, Some}
 use Rattle.serde_json.specs.Data.{Data, depth}
 use Rattle.serde_json.specs.View.{view}
+use Rattle.tpl_verdicts.specs.Told.{all_told}
 use Rattle.tpl_verdicts.proofs.JsonLemmas.{whole_depth}
 use Rattle.tpl_verdicts.proofs.json.json_of.Goals as goal
 
 pub returns : goal.returns
 returns c =
-    let names = c.args.all.now.graph.now.names in
-    let vs = c.args.all.now.verdicts.now in
+    let all = c.args.all.now in
     let ds = map view c.in_ok-values.values.items in
     let value = c.in_ok-whole_value.ensures in
-    let shallow = subst (λ (d : Data). depth d ≤ 127) (sym value) (whole_depth names vs ds c.in_ok-values.ensures) in
+    let shallow = subst (λ (d : Data). depth d ≤ 127) (sym value) (whole_depth all.graph.now.names (all_told all) all.verdicts.now ds c.in_ok-values.ensures) in
     (ds, string_bytes c.in_ok-text.text, c.in_ok-values.ensures, c.in_ok-text.ensures.reads_back shallow ∙ ap (λ (d : Data). Some d) value, c.in_ok-push_str.ensures.bytes)

@@ -26,7 +26,7 @@ returns-then-len-gt-LONGEST g c =
     let inputs = c.args.found.run.inputs in
     let events = c.args.found.run.events.items in
     let text = string_bytes c.in_ok-text.text in
-    let is = filled_in doc inputs events _ _ text c.as_slice-events.ensures.value c.in_ok-journal.ensures c.in_ok-text.ensures.text in
+    let is = filled_in doc inputs events _ _ text c.as_slice-events.ensures.value c.in_ok-journal.ensures.lines c.in_ok-text.ensures.text in
     inr (record {
       number = c.args.found.number;
       inputs = inputs;
@@ -44,7 +44,7 @@ returns g c =
     let inputs = c.args.found.run.inputs in
     let events = c.args.found.run.events.items in
     let text = string_bytes c.in_ok-text.text in
-    let is = filled_in doc inputs events _ _ text c.as_slice-events.ensures.value c.in_ok-journal.ensures c.in_ok-text.ensures.text in
+    let is = filled_in doc inputs events _ _ text c.as_slice-events.ensures.value c.in_ok-journal.ensures.lines c.in_ok-text.ensures.text in
     let laws : Laws = record {
       one = c.one_document.ensures.one;
       faultless = c.one_document.ensures.faultless;

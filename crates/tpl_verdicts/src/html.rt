@@ -1,0 +1,49 @@
+//! The verdicts as a page for a browser.
+
+ghost use Rattle.std.specs.Prelude.{◌≡◌, IfOk, IsUtf8, string_bytes};
+ghost use Rattle.tpl_reader.specs.Prelude.{behind_mark};
+ghost use Rattle.tpl_verdicts.specs.Prelude.{AreRight, IsHtml, all_told, shown};
+
+use crate::json::json_of;
+use crate::judgement::Judgements;
+use crate::text::text_of;
+use std::alloc::{AllocError, Global};
+use tpl_page::page_of;
+use tpl_reader::behind_mark;
+
+/// The text of the document that these bytes spell.
+fn text_in(bytes: &[u8]) -> &str
+    requires { IsUtf8 (behind_mark bytes.now) }
+    ensures { result.now ≡ behind_mark bytes.now }
+{
+    match std::str::from_utf8(behind_mark(bytes)) {
+        Ok(text) => text,
+        Err(_) => unreachable!(),
+    }
+}
+
+/// What the page's scripts show.
+fn shown(alloc: Global, document: &str, verdicts: &str) -> Result<String, AllocError>
+    ensures { IfOk result (λ text. string_bytes text ≡ shown document.now verdicts.now) }
+{
+    format!(in alloc; "{{\"document\":{document},\"verdicts\":{verdicts}}}")
+}
+
+/// The verdicts on the claims of the document that these bytes spell as a page, which has the document's own text. Without
+/// scripts it shows what the verdicts say as lines.
+pub(crate) fn html_of(
+    alloc: Global,
+    bytes: &[u8],
+    all: &Judgements<'_>,
+) -> Result<String, AllocError>
+    requires document { IsUtf8 (behind_mark bytes.now) }
+    requires right { AreRight all.now }
+    ensures { IfOk result (λ text.
+        IsHtml (behind_mark bytes.now) all.now.graph.now.names (all_told all.now)
+        all.now.verdicts.now (string_bytes text)) }
+{
+    let lines = text_of(alloc, all)?;
+    let verdicts = json_of(alloc, all)?;
+    let shown = shown(alloc, text_in(bytes), verdicts.as_str())?;
+    page_of(alloc, lines.as_str(), shown.as_str())
+}

@@ -1,6 +1,0 @@
-use Rattle.tpl_verify.proofs.VerdictLemmas.{never_kept}
-use Rattle.tpl_verify.proofs.empty.never_ends.Goals as goal
-
-pub returns-then-never : goal.returns-then-never
-returns-then-never c =
-    never_kept c.args.question.now.graph.now.graph c.args.question.now.claim.now.given c.args.task c.requires (c.has_to_end.ensures c.if-has_to_end.true) (c.in_ok-never.ensures c.if-never.true)
