@@ -97,13 +97,14 @@ same_language Dot Mermaid e = absurd cc
 same_language Dot Dot e = refl
 
 styled : Text → Style
-styled t = if slice_index t 0 == 116 then style.Text else (if slice_index t 1 == 115 then style.Json else style.Junit)
+styled t = if slice_index t 0 == 116 then style.Text else (if slice_index t 0 == 104 then style.Html else (if slice_index t 1 == 115 then style.Json else style.Junit))
 
 styled_word : (s : Style) → styled (style_word s) ≡ s
 unfolding styled
 styled_word style.Text = refl
 styled_word style.Json = refl
 styled_word style.Junit = refl
+styled_word style.Html = refl
 
 pub same_style : (a b : Style) → style_word a ≡ style_word b → a ≡ b
 same_style a b e = sym (styled_word a) ∙ (ap styled e ∙ styled_word b)

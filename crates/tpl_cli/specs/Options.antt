@@ -60,6 +60,7 @@ abbrev pub style_word : Style → Text
 style_word style.Text = codes "text"
 style_word style.Json = codes "json"
 style_word style.Junit = codes "junit"
+style_word style.Html = codes "html"
 
 -- the rule for an option
 abbrev pub rule_for : CommandOption → Rule

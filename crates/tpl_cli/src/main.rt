@@ -1,4 +1,29 @@
 //! `taskgraph`: the document comes on standard input, and the answer goes to standard output.
+//!
+//! ## Choices
+//!
+//! - **Only help that was asked for is help.** No words at all are a usage fault, and so are arguments that aren't
+//!   text.
+//! - **The language of a picture is read by this program and not by `clap`**, whose contract for a list of names
+//!   speaks of where the list lies in memory. So this program also says which languages there are. What else it has
+//!   to add to `clap`'s words on a mistake goes by how these begin, since an error of that library has only its kind
+//!   and its text.
+//! - **A claim is tried with at most 1,000,000 runs, and a seed below 4,294,967,296.** `--runs 0` tries none.
+//!   `--claim` has no default: each claim is tried if it is left out.
+//! - **The line that words name is said by subcommand**, in one definition (`Means`), and the words name one line at
+//!   most. An option that has no value counts as used where the reader of the command line gives it the text `true`.
+//! - **What failed at standard input or standard output is told by the reader and the writer themselves**, which keep
+//!   the last error of the system. The commands only count failed calls: which error it was changes no answer.
+//! - **That `--explain` was used is read in the words themselves**, once they are known to name a line: no option
+//!   takes that word as its value.
+//! - **How far the work is stands on standard error, where that is a terminal, and nowhere else.** A search tells its
+//!   watcher of each claim as it begins it, and after each 1,000 leaves; a run is seen by a follower in a thread of
+//!   its own, who takes the events into a machine beside it and counts the tasks that have ended. Neither can change
+//!   the answer: the calls that are watched have the clauses of those that aren't. If there is no memory or no thread
+//!   for it, a run isn't followed.
+//! - **A write past the largest file that is allowed is a failed write if the script calls the program.** The
+//!   toolchain has a program ignore SIGPIPE, and offers no call to ignore another signal. So the script ignores
+//!   SIGXFSZ before it starts the program.
 #![tactic(auto)]
 
 mod boxes;
@@ -7,6 +32,7 @@ mod line;
 mod number;
 mod options;
 mod progress;
+mod stack;
 mod tips;
 mod usage;
 mod why;
@@ -22,6 +48,7 @@ use crate::boxes::run_boxes;
 use crate::devices::{Noting, say_unwritten, say_what_failed};
 use crate::line::{Line, LineFault, line_of};
 use crate::progress::{ClaimProgress, RunProgress};
+use crate::stack::take_stack;
 use crate::why::{Teller, asks_why, say_what_is_read};
 use std::alloc::Global;
 use std::io::{BufWriter, ErrorKind, IsTerminal, Read, Write};
@@ -140,10 +167,23 @@ fn jobs_of<R: Threads>(threads: &R, asked: Option<u16>) -> usize
     }
 }
 
+/// How many threads work beside each other. Where there are several, the stack is taken before the first one starts.
+fn threads_for<R: Threads>(rt: &HostRuntime, threads: &R, asked: Option<u16>) -> usize
+    requires { AreThreads asked }
+    ensures some { 0 < result }
+    ensures most { result ≤ MOST_JOBS }
+{
+    let jobs = jobs_of(threads, asked);
+    if jobs > 1 {
+        take_stack(rt);
+    }
+    jobs
+}
+
 /// Answers the document on each line by this command. No reasons are given.
 fn answer_each<R: Threads + Sync, C: Command + Sync, I: Read, O: Write>(
+    rt: &HostRuntime,
     threads: &R,
-    alloc: Global,
     command: &C,
     jobs: Option<u16>,
     from: &mut Counting<I>,
@@ -151,7 +191,8 @@ fn answer_each<R: Threads + Sync, C: Command + Sync, I: Read, O: Write>(
 ) -> Exit
     requires { AreThreads jobs }
 {
-    serve_each(threads, command, alloc, jobs_of(threads, jobs), from, to)
+    let jobs = threads_for(rt, threads, jobs);
+    serve_each(threads, command, rt.alloc(), jobs, from, to)
 }
 
 /// Answers the document that comes, and says on the standard error why the answer is what it is, where that is asked for.
@@ -165,7 +206,7 @@ fn answer<R: Threads + Wait + Sync, I: Read, O: Write>(
     requires { IsWithin order.now.line }
 {
     let alloc = rt.alloc();
-    let teller = Teller::new(rt, order.explains);
+    let teller = Teller::new(rt, &order.line, order.explains);
     match order.line {
         Line::Serve(ask) => {
             let teller = teller.of_ask(&ask);
@@ -173,7 +214,7 @@ fn answer<R: Threads + Wait + Sync, I: Read, O: Write>(
         }
         Line::Each(ask, jobs) => {
             let listener = Nobody;
-            answer_each(threads, alloc, &Asking { ask, listener }, jobs, from, to)
+            answer_each(rt, threads, &Asking { ask, listener }, jobs, from, to)
         }
         Line::Run { workers, is_whole } => run(rt, threads, teller, workers, is_whole, from, to),
         Line::Refute {
@@ -196,9 +237,9 @@ fn answer<R: Threads + Wait + Sync, I: Read, O: Write>(
             let limits = Limits::usual(depth, tries.runs, u64::from(tries.seed));
             if is_each {
                 let command = OneByOne { limits, style };
-                return answer_each(threads, alloc, &command, jobs, from, to);
+                return answer_each(rt, threads, &command, jobs, from, to);
             }
-            let jobs = jobs_of(threads, jobs);
+            let jobs = threads_for(rt, threads, jobs);
             let asked = Verification {
                 limits,
                 jobs,

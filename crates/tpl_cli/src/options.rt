@@ -135,7 +135,7 @@ impl CommandOption {
                 word_arg(alloc, "LANGUAGE", help, "mermaid")
             }
             CommandOption::Style => {
-                let help = "How the verdicts are written: text, json or junit";
+                let help = "How the verdicts are written: text, json, junit or html";
                 word_arg(alloc, "STYLE", help, "text")
             }
         }
@@ -216,6 +216,7 @@ impl FromWord for Style {
             "text" => Some(Style::Text),
             "json" => Some(Style::Json),
             "junit" => Some(Style::Junit),
+            "html" => Some(Style::Html),
             _ => None,
         }
     }

@@ -93,7 +93,7 @@ pub(crate) fn with_tip(alloc: Global, text: String, words: &[&str]) -> Result<St
 /// The options that have a word behind `--as`, by their subcommands: what the help calls the word, and which there are.
 const NAMED: [(&str, &str, &str); 2] = [
     ("draw", "LANGUAGE", "mermaid, dot"),
-    ("verify", "STYLE", "text, json, junit"),
+    ("verify", "STYLE", "text, json, junit, html"),
 ];
 
 /// What is said of a word behind `--as` that names nothing there.

@@ -6,6 +6,7 @@ ghost use Rattle.tpl_commands.specs.Prelude.{IsFoundOf};
 ghost use Rattle.tpl_graph.specs.Prelude.{Fits};
 ghost use Rattle.tpl_reader.specs.Prelude.{Spells, doc_of};
 
+use crate::line::Line;
 use crate::progress::clear;
 use json::Value;
 use std::alloc::{AllocError, Global};
@@ -20,31 +21,66 @@ pub(crate) fn asks_why(words: &[&str]) -> bool {
     words.contains(&"--explain")
 }
 
-/// Tells how far a search is, where that shows something, and why an answer is what it is, where that is asked for. What the
-/// standard error doesn't take isn't said, nor that for which there is no memory.
+/// What a command says of a document without claims.
+const NO_CLAIM: &str = "no claim was asked, so nothing is shown\n";
+
+/// What a command says of a document without a journal.
+const NO_JOURNAL: &str = "the document has no journal, so nothing was recorded\n";
+
+/// What a command answers about. Where a document has nothing of it, the answer says nothing.
+#[derive(Clone, Copy, Debug, Drop, PartialEq, Eq)]
+enum Subject {
+    /// The claims. The reasons of the answer say where there is none.
+    Claims,
+    /// The claims, each with a verdict. No reasons are given.
+    Verdicts,
+    /// The journal.
+    Journal,
+    /// Something that each document has.
+    Graph,
+}
+
+/// What is answered about where this is asked of a document.
+fn subject_of(line: &Line) -> Subject {
+    match line {
+        Line::Serve(Ask::Check | Ask::Analyse(_) | Ask::AnalyseIn(_, _) | Ask::Certify(_, _)) => {
+            Subject::Claims
+        }
+        Line::Serve(Ask::Audit) | Line::Trace => Subject::Journal,
+        Line::Verify { .. } => Subject::Verdicts,
+        Line::Serve(Ask::Draw(_)) | Line::Each(_, _) | Line::Run { .. } | Line::Refute { .. } => {
+            Subject::Graph
+        }
+    }
+}
+
+/// Tells how far a search is, where that shows something, why an answer is what it is, where that is asked for, and always
+/// where a document has nothing of what is answered about. What the standard error doesn't take isn't said, nor that for
+/// which there is no memory.
 #[derive(Clone, Copy, Drop)]
 pub(crate) struct Teller<'a> {
     rt: &'a HostRuntime,
     shows: bool,
     explains: bool,
+    subject: Subject,
 }
 
 impl<'a> Teller<'a> {
-    /// Tells nothing of a search; and reasons, where they are asked for.
-    pub(crate) fn new(rt: &'a HostRuntime, explains: bool) -> Teller<'a> {
+    /// Tells nothing of a search; and reasons of what this line answers, where they are asked for.
+    pub(crate) fn new(rt: &'a HostRuntime, line: &Line, explains: bool) -> Teller<'a> {
         Teller {
             rt,
             shows: false,
             explains,
+            subject: subject_of(line),
         }
     }
 
     /// Tells also how far a search is, on a terminal alone.
     pub(crate) fn of_search(self) -> Teller<'a> {
         Teller {
-            rt: self.rt,
             shows: self.rt.stderr().is_terminal(),
-            explains: self.explains,
+            ..self
         }
     }
 
@@ -53,6 +89,16 @@ impl<'a> Teller<'a> {
         match ask {
             Ask::Analyse(_) | Ask::AnalyseIn(_, _) | Ask::Certify(_, _) => self.of_search(),
             Ask::Check | Ask::Audit | Ask::Draw(_) => self,
+        }
+    }
+
+    /// What is said of a document that has nothing of what is answered about, if anything.
+    fn lack_of(self, document: &Document) -> Option<&'static str> {
+        match self.subject {
+            Subject::Claims if self.explains => None,
+            Subject::Claims | Subject::Verdicts if document.claims.is_empty() => Some(NO_CLAIM),
+            Subject::Journal if document.journal.is_empty() => Some(NO_JOURNAL),
+            _ => None,
         }
     }
 
@@ -78,7 +124,10 @@ impl Watch for Teller<'_> {
 }
 
 impl Hear for Teller<'_> {
-    fn document(self, alloc: Global, value: &Value<'_>) {
+    fn document(self, alloc: Global, value: &Value<'_>, document: &Document) {
+        if let Some(text) = self.lack_of(document) {
+            let _ = eprint!(self.rt; "{text}");
+        }
         if self.explains {
             if let Ok(Some(text)) = twice_text(alloc, value) {
                 let _ = eprint!(self.rt; "{text}");

@@ -21,9 +21,9 @@ use Rattle.tpl_reader.specs.SeenDocument.{doc_of}
 use Rattle.tpl_commands.specs.Checking.{ClaimsHold, IsAccepted, IsRefused, IsCheckOf, NamesTask}
 
 -- the task that the first fault names is the graph's
-names_plain : (g : TaskGraph) (claims : List Claim) (trees : List Tree) (fault : CertFault) → IsFirstFault false g claims trees fault → NamesTask g fault
+names_plain : (g : TaskGraph) (claims : List Claim) (trees : List Tree) (fault : CertFault) → IsFirstFault g claims trees fault → NamesTask g fault
 names_plain g claims trees (Shape claim) first = tt
-names_plain g claims trees (NotClosed claim leaf t rule) first = names_task false g claims trees claim leaf t rule first
+names_plain g claims trees (NotClosed claim leaf t rule) first = names_task g claims trees claim leaf t rule first
 names_plain g claims trees (ClaimNot claim leaf) first = tt
 
 names_wide : (g : TaskGraph) (claims : List Claim) (trees : List WideTree) (fault : CertFault) → IsFirstWideFault g claims trees fault → NamesTask g fault
@@ -32,7 +32,7 @@ names_wide g claims trees (NotClosed claim leaf t rule) first = wide_names_task 
 names_wide g claims trees (ClaimNot claim leaf) first = tt
 
 pub is_plain_check : PlainIsRefused → (doc : DocumentValue) (plain : List Tree) (r : Result (Unit {0}) CertFault) → rules_of doc ≡ Narrow → doc.certificate ≡ map as_wide_tree plain
-    → (IsOk r ↔ Accepts false doc.graph.graph doc.claims plain) → IfOk r (λ x. ClaimsHold doc) → IfErr r (IsFirstFault false doc.graph.graph doc.claims plain) → IsCheckOf doc r
+    → (IsOk r ↔ Accepts doc.graph.graph doc.claims plain) → IfOk r (λ x. ClaimsHold doc) → IfErr r (IsFirstFault doc.graph.graph doc.claims plain) → IsCheckOf doc r
 is_plain_check refused doc plain (Ok x) rules trees accepts hold first = record { accepted = rw rules (plain, trees, accepts.0 refl); hold = hold }
 is_plain_check refused doc plain (Err fault) rules trees accepts hold first = (
   record {

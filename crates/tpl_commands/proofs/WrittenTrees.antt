@@ -15,7 +15,6 @@ use Rattle.tpl_model.specs.WiderRules.{WideRow, plain, WideAssumed, AllTokens, T
 use Rattle.tpl_model.proofs.MemberLemmas.{mem_split}
 use Rattle.tpl_model.proofs.Truths.{true_false}
 use Rattle.tpl_laws.specs.ByRules.{AcceptsBy}
-use Rattle.tpl_laws.specs.Wider.{WiderAccepts}
 use Rattle.tpl_laws.specs.WiderSoundness.{TokensAcceptMore}
 use Rattle.tpl_laws.specs.WideTrees.{AcceptsWideTree, WidelyAccepts}
 use Rattle.tpl_laws.proofs.Settling.{no_task}
@@ -87,8 +86,8 @@ module _ (n : Names) (g : TaskGraph) (valid : IsGraph g) (tasks : length n.tasks
       rw (tree_known claim.body t (widely_assumed g claim) accepted.0, wide_known claims trees accepted.1) refl
 
 -- what the narrow rules accept, the wide ones do
-pub trees_known : WiderAccepts → TokensAcceptMore → (m : Named) → IsNamedGraph m → (rules : RuleSet) (claims : List Claim) (trees : List WideTree) → AcceptsBy rules m.graph claims trees → list_all (has_ids m.names) trees ≡ true
-trees_known wider more m law Narrow claims trees accepted =
+pub trees_known : TokensAcceptMore → (m : Named) → IsNamedGraph m → (rules : RuleSet) (claims : List Claim) (trees : List WideTree) → AcceptsBy rules m.graph claims trees → list_all (has_ids m.names) trees ≡ true
+trees_known more m law Narrow claims trees accepted =
     subst (λ (ts : List WideTree). list_all (has_ids m.names) ts ≡ true) (sym accepted.1)
-    (wide_known m.names m.graph law.graph law.tasks law.tokens law.inputs claims (map as_wide_tree accepted.0) (more m.graph claims accepted.0 (wider m.graph claims accepted.0 accepted.2)))
-trees_known wider more m law Wide claims trees accepted = wide_known m.names m.graph law.graph law.tasks law.tokens law.inputs claims trees accepted
+    (wide_known m.names m.graph law.graph law.tasks law.tokens law.inputs claims (map as_wide_tree accepted.0) (more m.graph claims accepted.0 accepted.2))
+trees_known more m law Wide claims trees accepted = wide_known m.names m.graph law.graph law.tasks law.tokens law.inputs claims trees accepted

@@ -15,7 +15,7 @@ use serde_json::Value;
 use std::alloc::{AllocError, Global};
 use tpl_analyser::{Depth, Form};
 use tpl_graph::Graph;
-use tpl_reader::{Document, LONGEST};
+use tpl_reader::{Document, LONGEST, behind_mark};
 
 /// The document of these bytes with the certificate that was found.
 fn certified(
@@ -122,7 +122,7 @@ fn document_value(alloc: Global, bytes: &[u8]) -> Result<Value, AllocError>
     ensures reads { IfOk result (λ value. Reads bytes.now (view value)) }
     ensures object { IfOk result (λ value. IsObject (view value)) }
 {
-    match Value::from_slice(alloc, bytes) {
+    match Value::from_slice(alloc, behind_mark(bytes)) {
         Ok(value) => Ok(value),
         Err(error) if error.is_memory() => Err(AllocError),
         Err(_) => unreachable!(),

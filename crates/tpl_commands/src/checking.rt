@@ -40,7 +40,7 @@ fn check_plain(document: &Document) -> Result<(), CertFault>
 {
     tpl_laws::plain_is_refused();
     let (graph, claims) = (&document.graph, &document.claims);
-    check(graph, claims, &document.certificate, RuleSet::Narrow)
+    check(graph, claims, &document.certificate)
 }
 
 /// The same of a document whose trees may speak of them.

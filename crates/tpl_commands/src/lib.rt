@@ -1,4 +1,13 @@
 //! The commands that answer a document by a text, from a reader to a writer.
+//!
+//! ## Choices
+//!
+//! - **`analyse --whole` writes the members of an object in the order of the bytes of their names**, as compact JSON
+//!   in one line: a JSON value keeps no other order. A document that would be longer with its certificate than what
+//!   is read isn't written: `too long`, exit 1, since the document itself was read.
+//! - **Which claim a search's answer names is part of what was found**, and follows from no definition: only the call
+//!   that searched can say it. So the answer and its reason are both made from that one value
+//!   (`tpl_commands::Finding`), and neither searches again.
 #![tactic(auto)]
 
 mod answer;

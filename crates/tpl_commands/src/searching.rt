@@ -95,7 +95,6 @@ pub(crate) fn found_law(document: &Document, proof: &Proof)
     document.graph.valid_law();
     tpl_laws::sound_by_rules();
     tpl_laws::tokens_accept_more();
-    tpl_laws::wider_accepts();
     one_document();
     certificate_is_read_back();
     proof.limits_law();

@@ -3,22 +3,25 @@
 ghost use Rattle.std.specs.Prelude.{◌≡◌, ◌≤◌, [], true, length, drop, is_err, IfOk, MatchOption, MatchResult};
 ghost use Rattle.std.specs.Io.KnownBytes.{Consumes, IsAtEnd, Keeps};
 ghost use Rattle.tpl_each.specs.Lines.{IsFirstBreak, IsLine};
-ghost use Rattle.tpl_journal.specs.declared.reading.TheConstants.{BLOCK_BYTES};
+ghost use Rattle.tpl_each.specs.declared.ahead.TheConstants.{AHEAD_BYTES};
 ghost use Rattle.tpl_journal.specs.Prelude.{calls_of, counted, failures_of, remaining_of};
 
 use memchr::memchr;
 use std::io;
 use std::io::Read;
-use tpl_journal::{BLOCK_BYTES, Counting};
+use tpl_journal::Counting;
+
+/// How many bytes are read at once, at most. The lines that come with one read are answered together.
+pub(crate) const AHEAD_BYTES: usize = 16_384;
 
 /// Bytes that were read and belong to lines that come.
 #[derive(Drop)]
 pub(crate) struct Ahead {
-    block: [u8; BLOCK_BYTES],
+    block: [u8; AHEAD_BYTES],
     start: usize,
     end: usize,
     ghost ordered: { start ≤ end },
-    ghost within: { end ≤ BLOCK_BYTES },
+    ghost within: { end ≤ AHEAD_BYTES },
 }
 
 impl Ahead {
@@ -29,7 +32,7 @@ impl Ahead {
         ensures { ahead_of result ≡ [] }
     {
         Ahead {
-            block: [0; BLOCK_BYTES],
+            block: [0; AHEAD_BYTES],
             start: 0,
             end: 0,
         }
@@ -40,6 +43,11 @@ impl Ahead {
         ensures { result.now ≡ ahead_of self.now }
     {
         &self.block[self.start..self.end]
+    }
+
+    /// A whole line is there.
+    pub(crate) fn has_line(&self) -> bool {
+        break_in(self.bytes()).is_some()
     }
 
     /// Drops the first so many bytes.

@@ -1,6 +1,6 @@
 //! The answers to lines, by threads beside each other.
 
-ghost use Rattle.std.specs.Prelude.{◌≡◌, ◌<◌, ℕ, List, length, IfOk, slice_index_or, string_bytes};
+ghost use Rattle.std.specs.Prelude.{◌≡◌, ◌<◌, ◌≤◌, ℕ, List, length, IfOk, slice_index_or, string_bytes};
 ghost use Rattle.tpl_commands.specs.Prelude.{Says};
 ghost use Rattle.tpl_each.specs.Prelude.{IsKept, IsSaidTo, said_of};
 ghost use Rattle.tpl_each.specs.declared.slot.Slot.{Slot};
@@ -11,6 +11,9 @@ use std::alloc::{AllocError, Global};
 use std::thread;
 use std::thread::Threads;
 use tpl_commands::{Answer, Command, Exit};
+
+/// How many bytes of lines are worth a thread: the shortest document with a claim has some more.
+const BYTES_A_THREAD: usize = 64;
 
 /// The command's answer to a line.
 fn answer_to<C: Command>(command: &C, alloc: Global, line: &Line) -> Result<Answer, AllocError>
@@ -57,7 +60,21 @@ fn answer_all<R: Threads + Sync, C: Command + Sync>(
     thread::for_each_mut(rt, slots, jobs, &answer);
 }
 
-/// Answers the line of each slot, as [`answer_all`] does.
+/// How many threads there are for these lines: at most `jobs`, and no more than one for each `BYTES_A_THREAD` bytes and
+/// one besides.
+fn threads_for(jobs: usize, slots: &[Slot]) -> usize
+    requires { 0 < jobs }
+    ensures some { 0 < result }
+    ensures most { result ≤ jobs }
+{
+    let mut bytes: usize = 0;
+    for slot in slots {
+        bytes = bytes.saturating_add(slot.line.len());
+    }
+    jobs.min(1 + bytes / BYTES_A_THREAD)
+}
+
+/// Answers the line of each slot, as [`answer_all`] does, by as many threads as the lines are worth.
 pub(crate) fn answer_slots<R: Threads + Sync, C: Command + Sync>(
     rt: &R,
     command: &C,
@@ -71,5 +88,6 @@ pub(crate) fn answer_slots<R: Threads + Sync, C: Command + Sync>(
         → IsSaidTo (C.answers command.now) (slice_index_or slots.old.items i d).line
         (said_of (slice_index_or slots.new.items i d)) }
 {
-    answer_all(rt, command, alloc, jobs, slots.as_mut_slice());
+    let threads = threads_for(jobs, slots.as_slice());
+    answer_all(rt, command, alloc, threads, slots.as_mut_slice());
 }

@@ -9,7 +9,7 @@ ghost use Rattle.tpl_journal.specs.Prelude.{calls_of, contents_of, counted, fail
 use crate::ahead::Ahead;
 use crate::answering::answer_slots;
 use crate::gathering::{Ends, gather};
-use crate::slot::{MOST_JOBS, Slot, Slots};
+use crate::slot::{MOST_JOBS, MOST_LINES, Slot, Slots};
 use crate::writing::put_answers;
 use std::alloc::Global;
 use std::io::{Read, Write};
@@ -35,8 +35,8 @@ fn all_yes(slots: &[Slot]) -> bool
     slots.iter().all(|slot| slot.is_yes())
 }
 
-/// Reads at most `jobs` lines, answers them beside each other, and writes the answers, the first with this number. After
-/// a failed write a front of them was written.
+/// Reads at least `jobs` lines, or to the end, answers them, at most so many beside each other, and writes the answers,
+/// the first with this number. After a failed write a front of them was written.
 pub(crate) fn serve_batch<T: Threads + Sync, C: Command + Sync, R: Read, W: Write>(
     threads: &T,
     command: &C,
@@ -56,8 +56,8 @@ pub(crate) fn serve_batch<T: Threads + Sync, C: Command + Sync, R: Read, W: Writ
     ensures stopped { IfErr result (λ fault. IsStopped (C.answers command.now)
         (coming R.remaining ahead.old from.old)
         (contents_of W.contents to.old) (contents_of W.contents to.new) number) }
-    ensures full { IfOk result (λ batch. batch.ends ≡ Ends.More → batch.count ≡ jobs) }
-    ensures short { IfOk result (λ batch. batch.count ≤ jobs) }
+    ensures full { IfOk result (λ batch. batch.ends ≡ Ends.More → jobs ≤ batch.count) }
+    ensures short { IfOk result (λ batch. batch.count ≤ MOST_LINES) }
     ensures reads { IfOk result (λ batch.
         failures_of from.new ≡ counted (is_failed batch.ends) (failures_of from.old)) }
     ensures writes { failures_of to.new ≡ counted (is_err result) (failures_of to.old) }

@@ -26,6 +26,14 @@ impl Line {
         Line::Whole(Vec::new(alloc))
     }
 
+    /// How many of its bytes are kept.
+    pub(crate) fn len(&self) -> usize {
+        match self {
+            Line::Whole(bytes) => bytes.len(),
+            Line::TooLong | Line::Lost => 0,
+        }
+    }
+
     /// Some of it was read.
     pub(crate) fn is_begun(&self) -> bool
         ensures { (input : List ℕ) → IsKept input self.now → IsTrue result ↔ (0 < length input) }

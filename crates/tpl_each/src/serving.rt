@@ -36,8 +36,9 @@ fn exit_for(all_yes: bool) -> Exit
 
 /// Answers the document on each line, by at most `jobs` threads beside each other, and writes the answers in order, each
 /// line behind the number of its document and the exit status that the document alone would have. A document has at most
-/// 16,777,216 bytes; of a longer line the rest is passed over. At most `jobs` lines are kept at once. Success, where each
-/// answer is yes. What is read isn't answered before `jobs` lines came, or the end. A failed read ends the reading, and
+/// 16,777,216 bytes; of a longer line the rest is passed over. Beside `jobs` lines only those are kept that came with
+/// the same read as the last one. Success, where each answer is yes. What is read isn't answered before `jobs` lines came,
+/// or the end. A failed read ends the reading, and
 /// the lines before it are answered; after a failed write no more is read or written.
 pub fn serve_each<T: Threads + Sync, C: Command + Sync, R: Read, W: Write>(
     threads: &T,

@@ -21,8 +21,11 @@ pub(crate) struct Slot {
     pub(crate) answer: Option<Answer>,
 }
 
+/// How many lines are kept at once, at most.
+pub(crate) const MOST_LINES: usize = 128;
+
 /// The lines that are answered together.
-pub(crate) type Slots = ArrayVec<Slot, MOST_JOBS, Global>;
+pub(crate) type Slots = ArrayVec<Slot, MOST_LINES, Global>;
 
 impl Slot {
     /// The line without an answer.

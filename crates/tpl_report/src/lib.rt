@@ -1,4 +1,12 @@
 //! The run of a document, from its items to a writer; and all commands of the program.
+//!
+//! ## Choices
+//!
+//! - **Boxes are made inside the function that uses them**, since a function that hands out boxes hides what it
+//!   reaches.
+//! - **That N workers ran is stated by their seats.** The report of a run is one of the asker's seat and of the seats
+//!   of the workers 1 to N, each with its own events; nobody else has any. A worker that did nothing leaves no trace
+//!   in a text, so that each had a thread is tested and not proved.
 #![tactic(auto)]
 
 mod fault;

@@ -8,7 +8,7 @@ use Rattle.tpl_commands.proofs.searching.found_law.Goals as goal
 pub returns-clause-ids : goal.returns-clause-ids
 returns-clause-ids c =
     let doc = doc_of c.args.document.now in
-    trees_known c.wider_accepts.ensures c.tokens_accept_more.ensures doc.graph c.valid_law.ensures (rules_of doc) doc.claims (trees_of c.args.proof.now) c.requires.1
+    trees_known c.tokens_accept_more.ensures doc.graph c.valid_law.ensures (rules_of doc) doc.claims (trees_of c.args.proof.now) c.requires.1
 
 pub returns-clause-hold : goal.returns-clause-hold
 returns-clause-hold c = λ inputs events run.

@@ -12,5 +12,5 @@ text_with-requires-clause-inputs c =
 pub returns : goal.returns
 returns c =
     IfOk-weaker c.text_with.result _ _
-    (λ text is. subst (λ (j : List ℕ). IsTextOf (string_bytes text) (with_run (doc_of c.args.document.now) c.args.inputs.now j)) c.in_ok-journal.ensures is)
+    (λ text is. subst (λ (j : List ℕ). IsTextOf (string_bytes text) (with_run (doc_of c.args.document.now) c.args.inputs.now j)) c.in_ok-journal.ensures.lines is)
     c.text_with.ensures.text
