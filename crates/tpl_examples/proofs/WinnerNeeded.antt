@@ -6,7 +6,7 @@ use Rattle.tpl_model.specs.declared.finals.Final.{Final}
 use Rattle.tpl_model.specs.declared.finals.Final.TheVariants.{RanToCompletion, Canceled, Faulted}
 use Rattle.tpl_model.specs.Finals.{has, is_final}
 use Rattle.tpl_model.specs.Members.{mem}
-use Rattle.tpl_model.specs.Knowledge.{IsSettled, Knowledge, meet, when}
+use Rattle.tpl_model.specs.Knowledge.{IsSettled, Knowledge, as_facts, meet, when}
 use Rattle.tpl_model.specs.Recursion.{another}
 use Rattle.tpl_model.specs.declared.ids.TaskId.{TaskId}
 use Rattle.tpl_model.specs.declared.claim.Property.{Property}
@@ -38,18 +38,18 @@ bound t = if nat_eq t 1 then Faulted else RanToCompletion
 
 -- what is assumed leaves this open, and who wins
 record IsOpen (l : WideAssumed) : Type 0 where
-  first : l.assumed.cut 0 RanToCompletion ≡ true
-  second : l.assumed.cut 1 Faulted ≡ true
-  third : l.assumed.cut 2 RanToCompletion ≡ true
+  first : l.assumed.left 0 RanToCompletion ≡ true
+  second : l.assumed.left 1 Faulted ≡ true
+  third : l.assumed.left 2 RanToCompletion ≡ true
   given : (t : ℕ) (f : Final) → l.assumed.ended t f ≡ true
   wins : (n x : ℕ) → l.wins n x ≡ true
 
 -- a split on an end has a branch that does
 end_open : (l : WideAssumed) (t : ℕ) (f : Final) → bound t ≡ f → IsOpen l → IsOpen (end_split l t f)
 end_open l t f e o = record {
-  first = and_from (l.assumed.cut 0 RanToCompletion) (not (nat_eq t 0) || is_final f RanToCompletion) o.first (stays 0);
-  second = and_from (l.assumed.cut 1 Faulted) (not (nat_eq t 1) || is_final f Faulted) o.second (stays 1);
-  third = and_from (l.assumed.cut 2 RanToCompletion) (not (nat_eq t 2) || is_final f RanToCompletion) o.third (stays 2);
+  first = and_from (l.assumed.left 0 RanToCompletion) (not (nat_eq t 0) || is_final f RanToCompletion) o.first (stays 0);
+  second = and_from (l.assumed.left 1 Faulted) (not (nat_eq t 1) || is_final f Faulted) o.second (stays 1);
+  third = and_from (l.assumed.left 2 RanToCompletion) (not (nat_eq t 2) || is_final f RanToCompletion) o.third (stays 2);
   given = o.given;
   wins = o.wins;
 }
@@ -70,9 +70,9 @@ by_bound t A x y = pick (nat_eq t 1) x y
 
 narrowed_open : (l : WideAssumed) → IsOpen l → IsOpen (narrowed races l)
 narrowed_open l o = record {
-  first = and_from (l.assumed.cut 0 RanToCompletion) (l.assumed.cut 3 Canceled || true) o.first (or_right (l.assumed.cut 3 Canceled) true refl);
-  second = and_from (l.assumed.cut 1 Faulted) (l.assumed.cut 3 Canceled || true) o.second (or_right (l.assumed.cut 3 Canceled) true refl);
-  third = and_from (l.assumed.cut 2 RanToCompletion) (l.assumed.cut 3 Canceled || true) o.third (or_right (l.assumed.cut 3 Canceled) true refl);
+  first = and_from (l.assumed.left 0 RanToCompletion) (l.assumed.left 3 Canceled || true) o.first (or_right (l.assumed.left 3 Canceled) true refl);
+  second = and_from (l.assumed.left 1 Faulted) (l.assumed.left 3 Canceled || true) o.second (or_right (l.assumed.left 3 Canceled) true refl);
+  third = and_from (l.assumed.left 2 RanToCompletion) (l.assumed.left 3 Canceled || true) o.third (or_right (l.assumed.left 3 Canceled) true refl);
   given = o.given;
   wins = o.wins;
 }
@@ -89,7 +89,7 @@ at_start_known false b k e = true_false (sym e)
 -- then a closed leaf doesn't prove the claim
 module _ (l : WideAssumed) (rows : List WideRow) (o : IsOpen l) (closed : WidelyClosed races l rows) where
   abbrev at_begin : ℕ → Knowledge
-  at_begin t = record { requested = asked_of rows t; later = λ f. false }
+  at_begin t = record { requested = asked_of rows t; later = as_facts (asked_of rows t) }
 
   zeroth : 0 < 5
   zeroth = omega arith
@@ -98,7 +98,7 @@ module _ (l : WideAssumed) (rows : List WideRow) (o : IsOpen l) (closed : Widely
   first_runs = (closed 0 zeroth).runs
 
   first_way : IsWay races l rows 0 (ByBody RanToCompletion (at_begin 0))
-  first_way = (and_from (l.assumed.cut 0 RanToCompletion) (l.assumed.ended 0 RanToCompletion) o.first (o.given 0 RanToCompletion), (first_runs, refl))
+  first_way = (and_from (l.assumed.left 0 RanToCompletion) (l.assumed.ended 0 RanToCompletion) o.first (o.given 0 RanToCompletion), (first_runs, refl))
 
   first_ends : has (row (plain rows) 0).ends RanToCompletion ≡ true
   first_ends = (closed 0 zeroth).ends (ByBody RanToCompletion (at_begin 0)) first_way
@@ -109,10 +109,7 @@ module _ (l : WideAssumed) (rows : List WideRow) (o : IsOpen l) (closed : Widely
         | inl b ↦ none_below 1 b
         | inr f ↦ elim (f (ByBody RanToCompletion (at_begin 0)) first_way) [
           | inl b ↦ absurd ((closed 0 zeroth).begin first_runs (IsSettled 1) b)
-          | inr d ↦ elim d [
-            | inl b ↦ absurd b
-            | inr e ↦ elim e [ inl b ↦ absurd b | inr b ↦ true_false (sym b) ]
-          ]
+          | inr d ↦ elim d [ inl b ↦ absurd b | inr b ↦ true_false (sym b) ]
         ]
       ]
 
@@ -120,7 +117,7 @@ module _ (l : WideAssumed) (rows : List WideRow) (o : IsOpen l) (closed : Widely
   second_ends =
       let i : 1 < 5 = omega arith in
       (closed 1 i).ends (ByBody Faulted (at_begin 1))
-      (and_from (l.assumed.cut 1 Faulted) (l.assumed.ended 1 Faulted) o.second (o.given 1 Faulted), ((closed 1 i).runs, refl))
+      (and_from (l.assumed.left 1 Faulted) (l.assumed.ended 1 Faulted) o.second (o.given 1 Faulted), ((closed 1 i).runs, refl))
 
   may_win : (x : ℕ) → mem x (0 ∷ 1 ∷ []) ≡ true → mem x (filter (l.wins 2) (0 ∷ 1 ∷ [])) ≡ true
   may_win x m = filter_mem (l.wins 2) x (0 ∷ 1 ∷ []) m (o.wins 2 x)
@@ -131,7 +128,7 @@ module _ (l : WideAssumed) (rows : List WideRow) (o : IsOpen l) (closed : Widely
   third_ends : has (row (plain rows) 2).ends RanToCompletion ≡ true
   third_ends =
       let i : 2 < 5 = omega arith in
-      (closed 2 i).ends 0 (and_from (l.assumed.cut 2 RanToCompletion) (l.assumed.ended 2 RanToCompletion) o.third (o.given 2 RanToCompletion)) (may_win 0 refl) first_may_end
+      (closed 2 i).ends 0 (and_from (l.assumed.left 2 RanToCompletion) (l.assumed.ended 2 RanToCompletion) o.third (o.given 2 RanToCompletion)) (may_win 0 refl) first_may_end
 
   third_past : ends_with rows 2 (IsSettled 1) ≡ true → ⊥
   third_past m = let i : 2 < 5 = omega arith in first_past ((closed 2 i).end (IsSettled 1) m 0 (may_win 0 refl) first_may_end)

@@ -21,15 +21,15 @@ ends_ran = one_claim (ends_in 0 ran)
 
 abbrev pub OneRoot : Type 0
 OneRoot =
-    (verdict false (one_root returns) ends_ran (leaf (ends ran ∷ [])) ≡ Ok tt)
-    × (verdict false (graph_with [] 0 []) [] [] ≡ Ok tt)
-    × (verdict false (one_root returns) ends_ran [] ≡ Err (Shape 1))
+    (verdict (one_root returns) ends_ran (leaf (ends ran ∷ [])) ≡ Ok tt)
+    × (verdict (graph_with [] 0 []) [] [] ≡ Ok tt)
+    × (verdict (one_root returns) ends_ran [] ≡ Err (Shape 1))
 
 -- a root that throws, with an honest row and with the row above
 abbrev pub Throwing : Type 0
 Throwing =
-    (verdict false (one_root throws) ends_ran (leaf (ends faulted ∷ [])) ≡ Err (ClaimNot 1 1))
-    × (verdict false (one_root throws) ends_ran (leaf (ends ran ∷ [])) ≡ Err (not_closed 1 1 0 K2))
+    (verdict (one_root throws) ends_ran (leaf (ends faulted ∷ [])) ≡ Err (ClaimNot 1 1))
+    × (verdict (one_root throws) ends_ran (leaf (ends ran ∷ [])) ≡ Err (not_closed 1 1 0 K2))
 
 -- A, then B with a token, then C: C begins after A. B is eager, lazy, or its token is never requested
 abbrev pub three : List Token → ℕ → ℕ → TaskGraph
@@ -43,15 +43,15 @@ three_rows b past before = leaf (ends ran ∷ runs b (0 ∷ []) past [] ∷ runs
 
 abbrev pub EagerContinuation : Type 0
 EagerContinuation =
-    (verdict false (three (Plain ∷ []) 0 0) (a_before_c []) (three_rows ran_or_canceled [] (1 ∷ [])) ≡ Err (ClaimNot 1 1))
-    × (verdict false (three (Plain ∷ []) 0 0) (a_before_c []) (three_rows ran_or_canceled [] (0 ∷ 1 ∷ [])) ≡ Err (not_closed 1 1 2 K3))
-    × (verdict false (three (Plain ∷ []) 0 0) (a_before_c []) (three_rows ran_or_canceled (0 ∷ []) (0 ∷ 1 ∷ [])) ≡ Err (not_closed 1 1 1 K4))
+    (verdict (three (Plain ∷ []) 0 0) (a_before_c []) (three_rows ran_or_canceled [] (1 ∷ [])) ≡ Err (ClaimNot 1 1))
+    × (verdict (three (Plain ∷ []) 0 0) (a_before_c []) (three_rows ran_or_canceled [] (0 ∷ 1 ∷ [])) ≡ Err (not_closed 1 1 2 K3))
+    × (verdict (three (Plain ∷ []) 0 0) (a_before_c []) (three_rows ran_or_canceled (0 ∷ []) (0 ∷ 1 ∷ [])) ≡ Err (not_closed 1 1 1 K4))
 
 abbrev pub LazyContinuation : Type 0
-LazyContinuation = verdict false (three (Plain ∷ []) 0 32) (a_before_c []) (three_rows ran_or_canceled (0 ∷ []) (0 ∷ 1 ∷ [])) ≡ Ok tt
+LazyContinuation = verdict (three (Plain ∷ []) 0 32) (a_before_c []) (three_rows ran_or_canceled (0 ∷ []) (0 ∷ 1 ∷ [])) ≡ Ok tt
 
 abbrev pub QuietContinuation : Type 0
-QuietContinuation = verdict false (three (Plain ∷ []) 0 0) (a_before_c (given_quiet 0 ∷ [])) (three_rows ran (0 ∷ []) (0 ∷ 1 ∷ [])) ≡ Ok tt
+QuietContinuation = verdict (three (Plain ∷ []) 0 0) (a_before_c (given_quiet 0 ∷ [])) (three_rows ran (0 ∷ []) (0 ∷ 1 ∷ [])) ≡ Ok tt
 
 -- a job that may fail, X only where it does, Y only where it doesn't: they exclude each other, but one leaf doesn't
 -- show it
@@ -67,14 +67,14 @@ by_end if_canceled =
 
 abbrev pub ByEnd : Type 0
 ByEnd =
-    (verdict false one_of_two excludes (leaf (ends ran_or_faulted ∷ ends ran_or_canceled ∷ ends ran_or_canceled ∷ [])) ≡ Err (ClaimNot 1 1))
-    × (verdict false one_of_two excludes (by_end (ends nothing ∷ not_run nothing ∷ not_run nothing ∷ []) ∷ []) ≡ Ok tt)
-    × (verdict false one_of_two excludes (by_end (ends nothing ∷ ends ran ∷ ends ran ∷ []) ∷ []) ≡ Err (ClaimNot 1 2))
+    (verdict one_of_two excludes (leaf (ends ran_or_faulted ∷ ends ran_or_canceled ∷ ends ran_or_canceled ∷ [])) ≡ Err (ClaimNot 1 1))
+    × (verdict one_of_two excludes (by_end (ends nothing ∷ not_run nothing ∷ not_run nothing ∷ []) ∷ []) ≡ Ok tt)
+    × (verdict one_of_two excludes (by_end (ends nothing ∷ ends ran ∷ ends ran ∷ []) ∷ []) ≡ Err (ClaimNot 1 2))
 
 -- no chain goes through WhenAny
 abbrev pub ThroughAny : Type 0
 ThroughAny =
-    verdict false (graph_with [] 0 (root returns ∷ root throws ∷ when_any (0 ∷ 1 ∷ []) ∷ continuing 2 observes 0 ∷ [])) (one_claim (is_observed 1))
+    verdict (graph_with [] 0 (root returns ∷ root throws ∷ when_any (0 ∷ 1 ∷ []) ∷ continuing 2 observes 0 ∷ [])) (one_claim (is_observed 1))
     (leaf (ends ran ∷ runs faulted [] [] (2 ∷ 3 ∷ []) ∷ not_run ran ∷ runs ran (2 ∷ []) [] [] ∷ []))
     ≡ Err (not_closed 1 1 1 K6)
 
@@ -84,13 +84,13 @@ checks = graph_with (Plain ∷ []) 0 (with_token 0 (root (Check 0 ⨾ Work 0 tru
 
 abbrev pub OwnCheck : Type 0
 OwnCheck =
-    (verdict false checks (one_claim (ends_in 0 any_end)) (leaf (ends any_end ∷ [])) ≡ Ok tt)
-    × (verdict false checks (one_claim (ends_in 0 any_end)) (leaf (ends ran_or_faulted ∷ [])) ≡ Err (not_closed 1 1 0 K2))
+    (verdict checks (one_claim (ends_in 0 any_end)) (leaf (ends any_end ∷ [])) ≡ Ok tt)
+    × (verdict checks (one_claim (ends_in 0 any_end)) (leaf (ends ran_or_faulted ∷ [])) ≡ Err (not_closed 1 1 0 K2))
 
 -- a body that requests a token and checks it
 abbrev pub CancelThenCheck : Type 0
 CancelThenCheck =
-    verdict false (graph_with (Plain ∷ []) 0 (root (Cancel 0 ⨾ Check 0 ⨾ Throw 0 ⨾ Nothing) ∷ [])) (one_claim (ends_in 0 faulted)) (leaf (ends faulted ∷ [])) ≡ Ok tt
+    verdict (graph_with (Plain ∷ []) 0 (root (Cancel 0 ⨾ Check 0 ⨾ Throw 0 ⨾ Nothing) ∷ [])) (one_claim (ends_in 0 faulted)) (leaf (ends faulted ∷ [])) ≡ Ok tt
 
 -- a continuation that doesn't start after the only end of its antecedent, and one that does
 abbrev pub two : Statements → ℕ → TaskGraph
@@ -101,9 +101,9 @@ b_canceled = one_claim (ends_in 1 canceled)
 
 abbrev pub OnlyOn : Type 0
 OnlyOn =
-    (verdict false (two throws 0x60000) b_canceled (leaf (ends faulted ∷ not_run canceled ∷ [])) ≡ Ok tt)
-    × (verdict false (two throws 0x50000) b_canceled (leaf (ends faulted ∷ not_run canceled ∷ [])) ≡ Err (not_closed 1 1 1 K1))
-    × (verdict false (two returns 0x30000) b_canceled (leaf (ends ran ∷ not_run canceled ∷ [])) ≡ Ok tt)
+    (verdict (two throws 0x60000) b_canceled (leaf (ends faulted ∷ not_run canceled ∷ [])) ≡ Ok tt)
+    × (verdict (two throws 0x50000) b_canceled (leaf (ends faulted ∷ not_run canceled ∷ [])) ≡ Err (not_closed 1 1 1 K1))
+    × (verdict (two returns 0x30000) b_canceled (leaf (ends ran ∷ not_run canceled ∷ [])) ≡ Ok tt)
 
 -- WhenAll of a task that throws and one that may be canceled
 abbrev pub both : Finals → List Tree
@@ -114,8 +114,8 @@ throw_and_cancel = graph_with (Plain ∷ []) 0 (root throws ∷ with_token 0 (ro
 
 abbrev pub AllOfBoth : Type 0
 AllOfBoth =
-    (verdict false throw_and_cancel (one_claim (ends_in 2 faulted)) (both faulted) ≡ Ok tt)
-    × (verdict false throw_and_cancel (one_claim (ends_in 2 faulted)) (both canceled) ≡ Err (not_closed 1 1 2 K2))
+    (verdict throw_and_cancel (one_claim (ends_in 2 faulted)) (both faulted) ≡ Ok tt)
+    × (verdict throw_and_cancel (one_claim (ends_in 2 faulted)) (both canceled) ≡ Err (not_closed 1 1 2 K2))
 
 -- a parent takes over the exception of its attached child, but not its cancellation
 abbrev pub parent : ℕ → Task → TaskGraph
@@ -123,10 +123,10 @@ parent options k = graph_with (Plain ∷ []) 0 (with_options options (root (Star
 
 abbrev pub AttachedChild : Type 0
 AttachedChild =
-    (verdict false (parent 0 (child_with throws 4)) (one_claim (ends_in 0 ran_or_faulted)) (leaf (ends ran_or_faulted ∷ ends faulted ∷ [])) ≡ Ok tt)
-    × (verdict false (parent 0 (child_with throws 4)) ends_ran (leaf (ends ran ∷ ends faulted ∷ [])) ≡ Err (not_closed 1 1 0 K2))
-    × (verdict false (parent 8 (child_with throws 4)) ends_ran (leaf (ends ran ∷ ends faulted ∷ [])) ≡ Ok tt)
-    × (verdict false (parent 0 (with_token 0 (child_with returns 4))) ends_ran (leaf (ends ran ∷ ends ran_or_canceled ∷ [])) ≡ Ok tt)
+    (verdict (parent 0 (child_with throws 4)) (one_claim (ends_in 0 ran_or_faulted)) (leaf (ends ran_or_faulted ∷ ends faulted ∷ [])) ≡ Ok tt)
+    × (verdict (parent 0 (child_with throws 4)) ends_ran (leaf (ends ran ∷ ends faulted ∷ [])) ≡ Err (not_closed 1 1 0 K2))
+    × (verdict (parent 8 (child_with throws 4)) ends_ran (leaf (ends ran ∷ ends faulted ∷ [])) ≡ Ok tt)
+    × (verdict (parent 0 (with_token 0 (child_with returns 4))) ends_ran (leaf (ends ran ∷ ends ran_or_canceled ∷ [])) ≡ Ok tt)
 
 -- a continuation that observes, one that first checks a token, and one with a token
 abbrev pub reader : Task → TaskGraph
@@ -140,14 +140,14 @@ b_observed = one_claim (is_observed 0)
 
 abbrev pub Observing : Type 0
 Observing =
-    (verdict false (reader (continuing 0 observes 0)) b_observed (read_by ran) ≡ Ok tt)
-    × (verdict false (reader (continuing 0 (Check 0 ⨾ observes) 0)) b_observed (read_by ran) ≡ Err (not_closed 1 1 0 K6))
-    × (verdict false (reader (with_token 0 (continuing 0 observes 0))) b_observed (read_by ran) ≡ Err (not_closed 1 1 0 K6))
+    (verdict (reader (continuing 0 observes 0)) b_observed (read_by ran) ≡ Ok tt)
+    × (verdict (reader (continuing 0 (Check 0 ⨾ observes) 0)) b_observed (read_by ran) ≡ Err (not_closed 1 1 0 K6))
+    × (verdict (reader (with_token 0 (continuing 0 observes 0))) b_observed (read_by ran) ≡ Err (not_closed 1 1 0 K6))
 
 -- a child's exception is read through its parent
 abbrev pub ObservedThroughParent : Type 0
 ObservedThroughParent =
-    verdict false (graph_with [] 0 (root (Start 1 ⨾ Nothing) ∷ child_with throws 4 ∷ continuing 0 observes 0 ∷ [])) (one_claim (is_observed 1))
+    verdict (graph_with [] 0 (root (Start 1 ⨾ Nothing) ∷ child_with throws 4 ∷ continuing 0 observes 0 ∷ [])) (one_claim (is_observed 1))
     (leaf (ends ran_or_faulted ∷ runs faulted [] [] (0 ∷ 2 ∷ []) ∷ ends ran ∷ []))
     ≡ Ok tt
 
@@ -160,8 +160,8 @@ child_past = leaf (runs ran [] (1 ∷ []) [] ∷ ends ran ∷ runs ran (0 ∷ 1 
 
 abbrev pub AfterChild : Type 0
 AfterChild =
-    (verdict false (child_then 4) (one_claim (begins_after 1 2)) child_past ≡ Ok tt)
-    × (verdict false (child_then 0) (one_claim (begins_after 1 2)) child_past ≡ Err (not_closed 1 1 0 K4))
+    (verdict (child_then 4) (one_claim (begins_after 1 2)) child_past ≡ Ok tt)
+    × (verdict (child_then 0) (one_claim (begins_after 1 2)) child_past ≡ Err (not_closed 1 1 0 K4))
 
 -- a body that throws where its input is false: as one leaf, with the input given, and split on the input
 abbrev pub on_input : TaskGraph
@@ -169,9 +169,9 @@ on_input = graph_with [] 1 (root (If 0 returns (Throw 0 ⨾ Nothing) ⨾ Nothing
 
 abbrev pub ByInput : Type 0
 ByInput =
-    (verdict false on_input ends_ran (leaf (ends ran_or_faulted ∷ [])) ≡ Err (ClaimNot 1 1))
-    × (verdict false on_input (one_claim_given (given_input 0 true ∷ []) (ends_in 0 ran)) (leaf (ends ran ∷ [])) ≡ Ok tt)
-    × (verdict false on_input ends_ran (SplitInput 0 (Leaf (ends ran ∷ [])) (Leaf (ends faulted ∷ [])) ∷ []) ≡ Err (ClaimNot 1 2))
+    (verdict on_input ends_ran (leaf (ends ran_or_faulted ∷ [])) ≡ Err (ClaimNot 1 1))
+    × (verdict on_input (one_claim_given (given_input 0 true ∷ []) (ends_in 0 ran)) (leaf (ends ran ∷ [])) ≡ Ok tt)
+    × (verdict on_input ends_ran (SplitInput 0 (Leaf (ends ran ∷ [])) (Leaf (ends faulted ∷ [])) ∷ []) ≡ Err (ClaimNot 1 2))
 
 -- tokens `user` and `timeout`, and one linked to both: where that one is never requested, so are its sources; where a
 -- source isn't, it may be
@@ -180,6 +180,6 @@ linked = Plain ∷ Plain ∷ Linked (0 ∷ 1 ∷ []) ∷ []
 
 abbrev pub LinkedTokens : Type 0
 LinkedTokens =
-    (verdict false (three linked 2 0) (a_before_c (given_quiet 2 ∷ [])) (three_rows ran (0 ∷ []) (0 ∷ 1 ∷ [])) ≡ Ok tt)
-    × (verdict false (three linked 2 0) (a_before_c (given_quiet 0 ∷ [])) (three_rows ran (0 ∷ []) (0 ∷ 1 ∷ [])) ≡ Err (not_closed 1 1 1 K2))
-    × (verdict false (graph_with linked 0 (root (Cancel 0 ⨾ Throw 0 ⨾ Nothing) ∷ [])) (one_claim_given (given_quiet 2 ∷ []) (ends_in 0 ran)) (leaf (ends nothing ∷ [])) ≡ Ok tt)
+    (verdict (three linked 2 0) (a_before_c (given_quiet 2 ∷ [])) (three_rows ran (0 ∷ []) (0 ∷ 1 ∷ [])) ≡ Ok tt)
+    × (verdict (three linked 2 0) (a_before_c (given_quiet 0 ∷ [])) (three_rows ran (0 ∷ []) (0 ∷ 1 ∷ [])) ≡ Err (not_closed 1 1 1 K2))
+    × (verdict (graph_with linked 0 (root (Cancel 0 ⨾ Throw 0 ⨾ Nothing) ∷ [])) (one_claim_given (given_quiet 2 ∷ []) (ends_in 0 ran)) (leaf (ends nothing ∷ [])) ≡ Ok tt)

@@ -23,10 +23,10 @@ true_given facts = one_claim_given facts (ends_in 0 any_end)
 
 -- the verdict on one leaf for a graph
 abbrev pub said : TaskGraph → List Row → Result (Unit {0}) CertFault
-said g rows = verdict false g true_claim (leaf rows)
+said g rows = verdict g true_claim (leaf rows)
 
 abbrev pub said_given : List Given → TaskGraph → List Row → Result (Unit {0}) CertFault
-said_given facts g rows = verdict false g (true_given facts) (leaf rows)
+said_given facts g rows = verdict g (true_given facts) (leaf rows)
 
 -- a graph of these tasks, without tokens or inputs; with one token; with one input
 abbrev pub plain : List Task → TaskGraph
@@ -188,8 +188,8 @@ PastContinuation =
 -- an eager continuation keeps its antecedent past it on the branches on which it isn't canceled
 abbrev pub PastWhereNotCanceled : Type 0
 PastWhereNotCanceled =
-    (verdict false (canceled_before 0) true_claim (SplitEnd 1 (Leaf (ends ran ∷ ran_past (0 ∷ []) ∷ [])) (Leaf (ends ran ∷ ends canceled ∷ [])) (Leaf (ends ran ∷ ends nothing ∷ [])) ∷ []) ≡ Ok tt)
-    × (verdict false (canceled_before 0) true_claim (SplitEnd 1 (Leaf (ends ran ∷ ends ran ∷ [])) (Leaf (ends ran ∷ runs canceled [] (0 ∷ []) [] ∷ [])) (Leaf (ends ran ∷ ends nothing ∷ [])) ∷ []) ≡ Err (not_closed 1 2 1 K4))
+    (verdict (canceled_before 0) true_claim (SplitEnd 1 (Leaf (ends ran ∷ ran_past (0 ∷ []) ∷ [])) (Leaf (ends ran ∷ ends canceled ∷ [])) (Leaf (ends ran ∷ ends nothing ∷ [])) ∷ []) ≡ Ok tt)
+    × (verdict (canceled_before 0) true_claim (SplitEnd 1 (Leaf (ends ran ∷ ends ran ∷ [])) (Leaf (ends ran ∷ runs canceled [] (0 ∷ []) [] ∷ [])) (Leaf (ends ran ∷ ends nothing ∷ [])) ∷ []) ≡ Err (not_closed 1 2 1 K4))
 
 -- past WhenAll is what is past some task of its list, past WhenAny only what is past each
 abbrev pub two_after_one : (List ℕ → Task) → TaskGraph
@@ -253,23 +253,23 @@ throwing_leaf = leaf (ends faulted ∷ not_run canceled ∷ [])
 
 abbrev pub Proving : Type 0
 Proving =
-    (verdict false throwing (one_claim (ends_in 0 faulted)) throwing_leaf ≡ Ok tt)
-    × (verdict false throwing (one_claim (ends_in 1 ran)) throwing_leaf ≡ Err (ClaimNot 1 1))
-    × (verdict false throwing (one_claim (begins_after 0 1)) throwing_leaf ≡ Ok tt)
-    × (verdict false throwing (one_claim (begins_after 1 0)) throwing_leaf ≡ Err (ClaimNot 1 1))
-    × (verdict false throwing (one_claim (never_begins 1)) throwing_leaf ≡ Ok tt)
-    × (verdict false throwing (one_claim (never_begins 0)) throwing_leaf ≡ Err (ClaimNot 1 1))
-    × (verdict false throwing (one_claim (exclude 0 1)) throwing_leaf ≡ Ok tt)
-    × (verdict false throwing (one_claim (exclude 1 0)) throwing_leaf ≡ Ok tt)
-    × (verdict false throwing (one_claim (exclude 0 0)) throwing_leaf ≡ Err (ClaimNot 1 1))
-    × (verdict false throwing (one_claim (is_observed 0)) throwing_leaf ≡ Err (ClaimNot 1 1))
-    × (verdict false throwing (one_claim (is_observed 1)) throwing_leaf ≡ Ok tt)
+    (verdict throwing (one_claim (ends_in 0 faulted)) throwing_leaf ≡ Ok tt)
+    × (verdict throwing (one_claim (ends_in 1 ran)) throwing_leaf ≡ Err (ClaimNot 1 1))
+    × (verdict throwing (one_claim (begins_after 0 1)) throwing_leaf ≡ Ok tt)
+    × (verdict throwing (one_claim (begins_after 1 0)) throwing_leaf ≡ Err (ClaimNot 1 1))
+    × (verdict throwing (one_claim (never_begins 1)) throwing_leaf ≡ Ok tt)
+    × (verdict throwing (one_claim (never_begins 0)) throwing_leaf ≡ Err (ClaimNot 1 1))
+    × (verdict throwing (one_claim (exclude 0 1)) throwing_leaf ≡ Ok tt)
+    × (verdict throwing (one_claim (exclude 1 0)) throwing_leaf ≡ Ok tt)
+    × (verdict throwing (one_claim (exclude 0 0)) throwing_leaf ≡ Err (ClaimNot 1 1))
+    × (verdict throwing (one_claim (is_observed 0)) throwing_leaf ≡ Err (ClaimNot 1 1))
+    × (verdict throwing (one_claim (is_observed 1)) throwing_leaf ≡ Ok tt)
 
 -- a fault that a parent only takes over is not its own to be observed
 abbrev pub ProvingOwnFault : Type 0
 ProvingOwnFault =
-    (verdict false (plain (root starts_child ∷ child_with throws 4 ∷ [])) (one_claim (is_observed 0)) (leaf (ends ran_or_faulted ∷ ends faulted ∷ [])) ≡ Ok tt)
-    × (verdict false (plain (root starts_child ∷ child_with throws 4 ∷ [])) (one_claim (is_observed 1)) (leaf (ends ran_or_faulted ∷ ends faulted ∷ [])) ≡ Err (ClaimNot 1 1))
+    (verdict (plain (root starts_child ∷ child_with throws 4 ∷ [])) (one_claim (is_observed 0)) (leaf (ends ran_or_faulted ∷ ends faulted ∷ [])) ≡ Ok tt)
+    × (verdict (plain (root starts_child ∷ child_with throws 4 ∷ [])) (one_claim (is_observed 1)) (leaf (ends ran_or_faulted ∷ ends faulted ∷ [])) ≡ Err (ClaimNot 1 1))
 
 -- one tree for each claim, one row for each task, and no id that isn't the graph's; the first claim without one is
 -- named
@@ -286,11 +286,11 @@ Shapes =
     × (said one (runs ran [] [] (1 ∷ []) ∷ []) ≡ Err (Shape 1))
     × (said one [] ≡ Err (Shape 1))
     × (said one (ends ran ∷ ends ran ∷ []) ≡ Err (Shape 1))
-    × (verdict false one true_claim (SplitInput 0 right_leaf right_leaf ∷ []) ≡ Err (Shape 1))
-    × (verdict false one true_claim (SplitEnd 1 right_leaf right_leaf right_leaf ∷ []) ≡ Err (Shape 1))
-    × (verdict false one true_claim (right_leaf ∷ right_leaf ∷ []) ≡ Err (Shape 2))
-    × (verdict false one (record { given = []; body = ends_in 0 faulted } ∷ record { given = []; body = ends_in 0 ran } ∷ []) (right_leaf ∷ []) ≡ Err (Shape 2))
-    × (verdict false one (record { given = []; body = ends_in 0 ran } ∷ record { given = []; body = ends_in 0 faulted } ∷ []) (right_leaf ∷ right_leaf ∷ []) ≡ Err (ClaimNot 2 1))
+    × (verdict one true_claim (SplitInput 0 right_leaf right_leaf ∷ []) ≡ Err (Shape 1))
+    × (verdict one true_claim (SplitEnd 1 right_leaf right_leaf right_leaf ∷ []) ≡ Err (Shape 1))
+    × (verdict one true_claim (right_leaf ∷ right_leaf ∷ []) ≡ Err (Shape 2))
+    × (verdict one (record { given = []; body = ends_in 0 faulted } ∷ record { given = []; body = ends_in 0 ran } ∷ []) (right_leaf ∷ []) ≡ Err (Shape 2))
+    × (verdict one (record { given = []; body = ends_in 0 ran } ∷ record { given = []; body = ends_in 0 faulted } ∷ []) (right_leaf ∷ right_leaf ∷ []) ≡ Err (ClaimNot 2 1))
 
 -- assumptions about one thing are taken together
 abbrev pub by_input : TaskGraph
@@ -301,10 +301,10 @@ job = plain (root (Work 0 true ⨾ Nothing) ∷ [])
 
 abbrev pub Assumptions : Type 0
 Assumptions =
-    (verdict false by_input (true_given (given_input 0 true ∷ [])) (SplitInput 0 (Leaf (ends ran ∷ [])) (Leaf (ends nothing ∷ [])) ∷ []) ≡ Ok tt)
-    × (verdict false by_input (true_given (given_input 0 false ∷ [])) (SplitInput 0 (Leaf (ends ran ∷ [])) (Leaf (ends nothing ∷ [])) ∷ []) ≡ Err (not_closed 1 2 0 K2))
-    × (verdict false job true_claim (SplitEnd 0 (SplitEnd 0 (Leaf (ends ran ∷ [])) (Leaf (ends nothing ∷ [])) (Leaf (ends nothing ∷ []))) (Leaf (ends nothing ∷ [])) (Leaf (ends faulted ∷ [])) ∷ []) ≡ Ok tt)
-    × (verdict false job true_claim (SplitEnd 0 (Leaf (ends nothing ∷ [])) (Leaf (ends nothing ∷ [])) (Leaf (ends faulted ∷ [])) ∷ []) ≡ Err (not_closed 1 1 0 K2))
+    (verdict by_input (true_given (given_input 0 true ∷ [])) (SplitInput 0 (Leaf (ends ran ∷ [])) (Leaf (ends nothing ∷ [])) ∷ []) ≡ Ok tt)
+    × (verdict by_input (true_given (given_input 0 false ∷ [])) (SplitInput 0 (Leaf (ends ran ∷ [])) (Leaf (ends nothing ∷ [])) ∷ []) ≡ Err (not_closed 1 2 0 K2))
+    × (verdict job true_claim (SplitEnd 0 (SplitEnd 0 (Leaf (ends ran ∷ [])) (Leaf (ends nothing ∷ [])) (Leaf (ends nothing ∷ []))) (Leaf (ends nothing ∷ [])) (Leaf (ends faulted ∷ [])) ∷ []) ≡ Ok tt)
+    × (verdict job true_claim (SplitEnd 0 (Leaf (ends nothing ∷ [])) (Leaf (ends nothing ∷ [])) (Leaf (ends faulted ∷ [])) ∷ []) ≡ Err (not_closed 1 1 0 K2))
 
 -- how the subject of a continuation may have ended: as its antecedent may and the options allow; behind WhenAny as any
 -- of its tasks may

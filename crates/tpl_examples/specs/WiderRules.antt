@@ -1,5 +1,7 @@
 -- Worked certificates for what version 3 adds: a case of each rule that is accepted, and ones that aren't.
-use Rattle.std.specs.Prelude.{◌≡◌, ℕ, true, false, Ok, Err, Result, List, [], ◌∷◌}
+use Rattle.tpl_model.specs.WiderRules.{as_wide_tree}
+use Rattle.tpl_laws.specs.WideVerdict.{wide_verdict}
+use Rattle.std.specs.Prelude.{◌≡◌, ℕ, true, false, Ok, Err, Result, List, [], ◌∷◌, map}
 use Rattle.tpl_model.specs.declared.finals.Final.TheVariants.{Canceled}
 use Rattle.tpl_model.specs.declared.finals.Finals.{Finals}
 use Rattle.tpl_model.specs.Statements.{Start, Work, Nothing, ◌⨾◌}
@@ -16,12 +18,12 @@ use Rattle.tpl_examples.specs.Words.{request, drop_outside, root, when_all, when
 use Rattle.tpl_examples.specs.Stories.{Story, the_end, ◌⇒◌, ◌&◌, ended}
 use Rattle.tpl_examples.specs.CertificateWords.{child_with, continuing, graph_with, nothing, ran_or_canceled, ran_or_faulted, any_end, runs, ends, not_run, one_claim_given, not_closed, leaf, throws, observes, stuck}
 
--- the verdict on one claim by the wider rules, and by the others
+-- the verdict on one claim by the wide rules, and by the narrow ones
 abbrev pub widely : TaskGraph → List Given → Property TaskId → List Row → Result (Unit {0}) CertFault
-widely g facts says rows = verdict true g (one_claim_given facts says) (leaf rows)
+widely g facts says rows = wide_verdict g (one_claim_given facts says) (map as_wide_tree (leaf rows))
 
 abbrev pub narrowly : TaskGraph → List Given → Property TaskId → List Row → Result (Unit {0}) CertFault
-narrowly g facts says rows = verdict false g (one_claim_given facts says) (leaf rows)
+narrowly g facts says rows = verdict g (one_claim_given facts says) (leaf rows)
 
 -- A, then B, then C, both with the token k and j: where C begins, its token isn't requested, so B wasn't canceled by it
 abbrev pub in_a_row : ℕ → ℕ → TaskGraph

@@ -1,8 +1,0 @@
-use Rattle.std.specs.Prelude.{◌≡◌}
-use Rattle.tpl_tests_runs.proofs.exchange.exchange_by_eight.Given as goal
-
-abbrev pub invariant-loop-part : goal.invariant-loop-part
-invariant-loop-part g l =
-    (goal.iterator-loop-part g).can_next l.part-iterator
-    × (goal.iterator-loop-part g).is_finite l.part-iterator
-    × (l.whole.queue ≡ l.queue.id)
