@@ -14,8 +14,6 @@ namespace Sample
     /// <summary>The constructs of docs/FROM-CSHARP.md by the library, each by the number of its document on that page, from 0.</summary>
     public static class FromCSharp
     {
-        private const TaskCreationOptions AttachedToParent = TaskCreationOptions.AttachedToParent;
-
         public static readonly IReadOnlyDictionary<int, Action<TaskGraphBuilder>> All = new Dictionary<int, Action<TaskGraphBuilder>>
         {
             { 0, Run },
@@ -33,6 +31,7 @@ namespace Sample
             { 15, Link },
             { 16, Cancel },
             { 18, Choose },
+            { 19, Decide },
         };
 
         private static void Run(TaskGraphBuilder g)
@@ -61,7 +60,7 @@ namespace Sample
         private static void StartChild(TaskGraphBuilder g)
         {
             var steps = new Steps(); var import = g.StartNew("Import", steps);
-            var users = g.Child("Users", () => ImportUsers(), AttachedToParent, mayFail: true);
+            var users = g.Child("Users", () => ImportUsers(), TaskCreationOptions.AttachedToParent, mayFail: true);
             steps.Start(users).Work("index", () => BuildIndex());
             import.ContinueWith("Next", new Steps().Observe());
         }
@@ -137,6 +136,12 @@ namespace Sample
             g.Run("Switch", new Steps().If(dryRun, new Steps().Throw("DryRun")).Work("switch", () => Switch()));
         }
 
+        private static void Decide(TaskGraphBuilder g)
+        {
+            var cached = g.Decides("cached", () => Has());
+            var answer = g.Run("Answer", new Steps().If(cached, new Steps(), new Steps().Work("load", () => Load())));
+        }
+
         // the team's code
 
         private sealed class Stopped : Exception
@@ -202,5 +207,7 @@ namespace Sample
         private static void Switch()
         {
         }
+
+        private static bool Has() => true;
     }
 }

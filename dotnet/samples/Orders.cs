@@ -184,55 +184,25 @@ namespace Sample
 
         // ---- the team's code
 
-        protected virtual Task Do(string job)
-        {
-            return Task.Delay(1);
-        }
+        protected virtual Task Do(string job) => Task.Delay(1);
 
-        private Task Load()
-        {
-            return Do("Load");
-        }
+        private Task Load() => Do("Load");
 
-        private Task Save()
-        {
-            return Do("Save");
-        }
+        private Task Save() => Do("Save");
 
-        private Task Undo()
-        {
-            return Do("Undo");
-        }
+        private Task Undo() => Do("Undo");
 
-        private Task Send()
-        {
-            return Do("Send");
-        }
+        private Task Send() => Do("Send");
 
-        private Task Send(int attempt)
-        {
-            return Do("Send" + attempt);
-        }
+        private Task Send(int attempt) => Do("Send" + attempt);
 
-        private Task Users()
-        {
-            return Do("Users");
-        }
+        private Task Users() => Do("Users");
 
-        private Task Prices()
-        {
-            return Do("Prices");
-        }
+        private Task Prices() => Do("Prices");
 
-        private Task Open()
-        {
-            return Do("Open");
-        }
+        private Task Open() => Do("Open");
 
-        private Task Dispose()
-        {
-            return Do("Dispose");
-        }
+        private Task Dispose() => Do("Dispose");
 
         private void Log(Exception e)
         {

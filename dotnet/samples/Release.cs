@@ -80,7 +80,7 @@ namespace Sample
             var rollback = release.ContinueWith("Rollback", _ => Rollback(), NotOnRanToCompletion);
             release.ContinueWith("Notify", new Steps().Observe().Work("notify", t => Notify(t.Exception)), OnlyOnFaulted);
             g.Claims.After(smoke, rollback).Final(rollback, RanToCompletion, Canceled);
-            g.Claims.Quiet(stop).Final(deploy, RanToCompletion, Faulted).Observed(deploy);
+            g.Claims.Final(deploy, g.Given.Quiet(stop), RanToCompletion, Faulted).Observed(deploy);
             return g;
         }
 
@@ -121,10 +121,7 @@ namespace Sample
         {
         }
 
-        public virtual Task Probe(CancellationToken stopping)
-        {
-            return Task.Delay(1, stopping);
-        }
+        public virtual Task Probe(CancellationToken stopping) => Task.Delay(1, stopping);
 
         public virtual void Switch()
         {

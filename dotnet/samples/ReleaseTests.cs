@@ -1,4 +1,5 @@
 using System;
+using System.Collections.Generic;
 using System.Linq;
 using System.Threading;
 using System.Threading.Tasks;
@@ -44,6 +45,19 @@ namespace Sample
             }
         }
 
+        // one case for each claim, which a runner shows by the claim's words
+        public static IEnumerable<object[]> Claims()
+        {
+            return new Release().Repaired().Verdicts().Select(it => new object[] { it.Text, it.Verdict, it.ToString() });
+        }
+
+        [Theory]
+        [MemberData(nameof(Claims))]
+        public void EachClaimHolds(string claim, Verdict verdict, string answer)
+        {
+            Assert.True(verdict == Verdict.Holds, claim + ": " + answer);
+        }
+
         // the same with requests from outside
         [Fact]
         public void StopsAreRunsOfTheGraph()
@@ -67,7 +81,7 @@ namespace Sample
             var none = Assert.Throws<TaskGraphException>(() => new Release().Graph().Certify());
             Assert.StartsWith("not found: claim 1", none.Message);
             Assert.Contains("claim 1 fails here", none.Message);
-            GraphRun run = new Release().Graph().Start(new RunOptions { Fail = site => site == "Smoke" });
+            GraphRun run = new Release().Graph().Start(RunOptions.Failing("Smoke"));
             Assert.True(run.Wait(5000));
             var wrong = Assert.Throws<TaskGraphException>(() => run.Audit());
             Assert.Contains("claim 1 fails", wrong.Message);

@@ -51,6 +51,7 @@ namespace TaskGraph.Internals
         private void Begin()
         {
             Delay();
+            options.Guide?.Come(task);
             worker = recorder.Begin(task.Id);
             Delay();
         }
@@ -59,6 +60,7 @@ namespace TaskGraph.Internals
         {
             Put(RecordKind.Over);
             Delay();
+            options.Guide?.Come(task);
         }
 
         /// <summary>Executes the steps; gives whether the body is over.</summary>
@@ -96,10 +98,7 @@ namespace TaskGraph.Internals
             return false;
         }
 
-        private static bool IsOver(StepOutcome outcome)
-        {
-            return outcome == StepOutcome.Over;
-        }
+        private static bool IsOver(StepOutcome outcome) => outcome == StepOutcome.Over;
 
         private static bool IsBranch(StepOutcome outcome)
         {
@@ -115,6 +114,7 @@ namespace TaskGraph.Internals
         private StepOutcome Pass(Step step)
         {
             Delay();
+            options.Guide?.Come(task);
             switch (step.Kind)
             {
                 case StepKind.Return:
@@ -138,13 +138,31 @@ namespace TaskGraph.Internals
                     Put(RecordKind.Step);
                     return StepOutcome.Next;
                 case StepKind.If:
-                    Put(RecordKind.Step);
-                    return step.Input.Value ? StepOutcome.Then : StepOutcome.Otherwise;
+                    return Decide(step.Input) ? StepOutcome.Then : StepOutcome.Otherwise;
                 case StepKind.When:
                     Put(RecordKind.Step);
                     return Subject().Status == step.Final ? StepOutcome.Then : StepOutcome.Otherwise;
                 default:
                     return StepOutcome.Job;
+            }
+        }
+
+        /// <summary>Reads an input, and notes that the branch is passed.</summary>
+        private bool Decide(GraphInput input)
+        {
+            try
+            {
+                return input.Read();
+            }
+            catch (Exception thrown)
+            {
+                string what = "the condition " + input.Name + " of " + task.Name;
+                recorder.Say(RunNoteKind.Undeclared, Told.Of(what, thrown, "ask for it in a job with mayFail"));
+                throw;
+            }
+            finally
+            {
+                Put(RecordKind.Step);
             }
         }
 
@@ -185,7 +203,8 @@ namespace TaskGraph.Internals
 
         private void Inject(Step step)
         {
-            if (step.MayFail && options.Fail != null && options.Fail(step.Text))
+            bool isLed = options.Guide != null && options.Guide.Fails(task);
+            if (step.MayFail && (isLed || (options.Fail != null && options.Fail(step.Text))))
             {
                 throw new InjectedFailureException(step.Text);
             }
@@ -203,9 +222,15 @@ namespace TaskGraph.Internals
             Put(RecordKind.Failed);
             if (!step.MayFail)
             {
-                string what = "the job " + step.Text + " of " + task.Name + " threw " + thrown.GetType().Name;
-                recorder.Say(RunNoteKind.Undeclared, what + "; declare it with mayFail");
+                recorder.Say(RunNoteKind.Undeclared, Told.Of("the job " + step.Text + " of " + task.Name, thrown, AdviceOn(thrown)));
             }
+        }
+
+        private static string AdviceOn(Exception thrown)
+        {
+            return thrown is OperationCanceledException
+                ? "declare it as Work with the token by which it stops"
+                : "declare it with mayFail, or catch the exception in the job";
         }
 
         private void Check(GraphToken token)
@@ -236,10 +261,7 @@ namespace TaskGraph.Internals
         }
 
         /// <summary>The antecedent, or the winner where the antecedent is a WhenAny task.</summary>
-        private Task Subject()
-        {
-            return task.Antecedent.Kind == TaskKind.Any ? Winner.Of(antecedent) : antecedent;
-        }
+        private Task Subject() => task.Antecedent.Kind == TaskKind.Any ? Winner.Of(antecedent) : antecedent;
 
         private void Put(RecordKind kind)
         {

@@ -1,5 +1,6 @@
 using System;
 using System.Collections.Generic;
+using System.Diagnostics.CodeAnalysis;
 using System.Linq;
 using System.Text.RegularExpressions;
 
@@ -28,26 +29,24 @@ namespace TaskGraph
         }
 
         /// <summary>The number of the claim, from 1, in the order in which they were declared.</summary>
-        public int Claim { get; private set; }
+        public int Claim { get; }
 
         /// <summary>The claim's name; null for none.</summary>
-        public string Name { get; private set; }
+        [MaybeNull]
+        public string Name { get; }
 
         /// <summary>What is known of it.</summary>
-        public Verdict Verdict { get; private set; }
+        public Verdict Verdict { get; }
 
         /// <summary>The claim in words.</summary>
-        public string Text { get; private set; }
+        public string Text { get; }
 
         /// <summary>Why the verdict isn't <see cref="TaskGraph.Verdict.Holds"/>: the events of the run in which the claim fails and the
         /// line that says so, the reason for which it says nothing, or how far it was tried. Empty where it holds.</summary>
-        public IReadOnlyList<string> Lines { get; private set; }
+        public IReadOnlyList<string> Lines { get; }
 
         /// <summary>Gives the words of the program.</summary>
-        public override string ToString()
-        {
-            return string.Join("\n" + Indent, new[] { first }.Concat(Lines));
-        }
+        public override string ToString() => string.Join("\n" + Indent, new[] { first }.Concat(Lines));
 
         /// <summary>The verdicts that taskgraph verify wrote as text.</summary>
         internal static IReadOnlyList<ClaimVerdict> AllOf(string output, Func<int, string> nameOf)

@@ -9,30 +9,24 @@ namespace TaskGraph
     /// <summary>What has to hold in every run of the graph.</summary>
     public sealed class Claims
     {
-        internal readonly List<string> Texts = new List<string>();
-        private const int MostBeforeVersion3 = 64;
-
         private readonly TaskGraphBuilder graph;
+        private readonly List<string> texts = new List<string>();
 
         // the name of each claim, null for none
         private readonly List<string> names = new List<string>();
 
-        // what the next claim says beside its sort: its name, its note and its given
-        private readonly List<string> given = new List<string>();
+        // what stands before the next claim
         private string name;
         private string note;
-        private bool isOfVersion3;
+        private bool isGivenOpen;
 
         internal Claims(TaskGraphBuilder graph)
         {
             this.graph = graph;
         }
 
-        /// <summary>Whether only a document of version 3 says all this.</summary>
-        internal bool NeedVersion3
-        {
-            get { return isOfVersion3 || Texts.Count > MostBeforeVersion3; }
-        }
+        /// <summary>The claims, as a document has them.</summary>
+        internal IReadOnlyList<string> Texts => texts;
 
         /// <summary>The next claim has this name, by which answers name it: 1 to 100 bytes of text, another one for each claim.</summary>
         /// <exception cref="ArgumentException">It is empty, too long, has a control character, or is that of an earlier claim.</exception>
@@ -53,105 +47,80 @@ namespace TaskGraph
             return this;
         }
 
-        /// <summary>The next claim speaks only of the runs in which nobody requests these tokens.</summary>
-        public Claims Quiet(params GraphToken[] tokens)
-        {
-            foreach (GraphToken token in tokens)
-            {
-                given.Add(Json.Object(Json.Member("quiet", Json.Text(Own(token).Name))));
-            }
-            return this;
-        }
+        /// <summary>Begins one claim, which speaks only of the runs in which nobody requests these tokens.</summary>
+        public GivenClaim Quiet(params GraphToken[] tokens) => NewGiven().Quiet(tokens);
 
-        /// <summary>The next claim speaks only of the runs in which the input has this value.</summary>
-        public Claims Given(GraphInput input, bool value)
-        {
-            given.Add(Json.Object(Json.Member("input", Json.Text(Own(input).Name)), Json.Member("is", Json.Bool(value))));
-            return this;
-        }
+        /// <summary>Begins one claim, which speaks only of the runs in which the input has this value.</summary>
+        public GivenClaim Given(GraphInput input, bool value) => NewGiven().Given(input, value);
 
-        /// <summary>The next claim speaks only of the runs in which the task, if it has ended, did so in one of these ways:
+        /// <summary>Begins one claim, which speaks only of the runs in which the task, if it has ended, did so in one of these ways:
         /// RanToCompletion, Canceled, Faulted.</summary>
-        public Claims Ended(GraphTask task, params TaskStatus[] ends)
-        {
-            return Give(Json.Object(Json.Member("ended", TextOf(task)), WaysOf(ends)));
-        }
+        public GivenClaim Ended(GraphTask task, params TaskStatus[] ends) => NewGiven().Ended(task, ends);
 
-        /// <summary>The next claim speaks only of the runs in which the jobs of these sites don't fail.</summary>
-        public Claims Succeeds(params string[] sites)
-        {
-            foreach (string site in sites)
-            {
-                Give(Json.Object(Json.Member("succeeds", Json.Text(Name.Checked(site)))));
-            }
-            return this;
-        }
+        /// <summary>Begins one claim, which speaks only of the runs in which the jobs of these sites don't fail.</summary>
+        public GivenClaim Succeeds(params string[] sites) => NewGiven().Succeeds(sites);
 
-        /// <summary>The next claim speaks only of the runs in which no job fails.</summary>
-        public Claims NoFailure()
-        {
-            return Give(Json.Text("no_failure"));
-        }
+        /// <summary>Begins one claim, which speaks only of the runs in which no job fails.</summary>
+        public GivenClaim NoFailure() => NewGiven().NoFailure();
 
-        /// <summary>The next claim speaks only of the runs in which nobody requests a token.</summary>
-        public Claims NoRequest()
-        {
-            return Give(Json.Text("no_request"));
-        }
+        /// <summary>Begins one claim, which speaks only of the runs in which nobody requests a token.</summary>
+        public GivenClaim NoRequest() => NewGiven().NoRequest();
 
         /// <summary>If the task has ended, it has done so in one of these ways: RanToCompletion, Canceled, Faulted.</summary>
-        public Claims Final(GraphTask task, params TaskStatus[] ends)
+        /// <exception cref="ArgumentException">The task is of another graph, or no end or another status is named.</exception>
+        public Claims Final(GraphTask task, params TaskStatus[] ends) => Final(task, null, ends);
+
+        /// <summary>If the task has ended, it has done so in one of these ways: RanToCompletion, Canceled, Faulted.</summary>
+        /// <param name="task">The task.</param>
+        /// <param name="given">The runs of which the claim speaks; null for all.</param>
+        /// <param name="ends">The ways.</param>
+        /// <exception cref="ArgumentException">The task is of another graph, or no end or another status is named.</exception>
+        public Claims Final(GraphTask task, Given given, params TaskStatus[] ends)
         {
-            return Add(Json.Member("final", TextOf(task)) + "," + WaysOf(ends));
+            return Add(given, Json.Member("final", TextOf(task)) + "," + WaysOf(ends));
         }
 
         /// <summary>The second task begins only after the first one is settled.</summary>
-        public Claims After(GraphTask first, GraphTask second)
+        /// <param name="first">The first task.</param>
+        /// <param name="second">The second task.</param>
+        /// <param name="given">The runs of which the claim speaks; all, if left out.</param>
+        /// <exception cref="ArgumentException">A task is of another graph.</exception>
+        public Claims After(GraphTask first, GraphTask second, Given given = null)
         {
-            return Add(Json.Member("after", Pair(first, second)));
+            return Add(given, Json.Member("after", Pair(first, second)));
         }
 
         /// <summary>The exception of the task's own body, if there is one, is read by somebody.</summary>
-        public Claims Observed(GraphTask task)
-        {
-            return Add(Json.Member("observed", TextOf(task)));
-        }
+        /// <param name="task">The task.</param>
+        /// <param name="given">The runs of which the claim speaks; all, if left out.</param>
+        /// <exception cref="ArgumentException">The task is of another graph.</exception>
+        public Claims Observed(GraphTask task, Given given = null) => Add(given, Json.Member("observed", TextOf(task)));
 
         /// <summary>If the run is complete, the task has begun.</summary>
-        public Claims Runs(GraphTask task)
-        {
-            isOfVersion3 = true;
-            return Add(Json.Member("runs", TextOf(task)));
-        }
+        /// <param name="task">The task.</param>
+        /// <param name="given">The runs of which the claim speaks; all, if left out.</param>
+        /// <exception cref="ArgumentException">The task is of another graph.</exception>
+        public Claims Runs(GraphTask task, Given given = null) => Add(given, Json.Member("runs", TextOf(task)));
 
         /// <summary>The task never begins.</summary>
-        public Claims Never(GraphTask task)
-        {
-            return Add(Json.Member("never", TextOf(task)));
-        }
+        /// <param name="task">The task.</param>
+        /// <param name="given">The runs of which the claim speaks; all, if left out.</param>
+        /// <exception cref="ArgumentException">The task is of another graph.</exception>
+        public Claims Never(GraphTask task, Given given = null) => Add(given, Json.Member("never", TextOf(task)));
 
         /// <summary>Not both tasks begin.</summary>
-        public Claims Excludes(GraphTask one, GraphTask other)
+        /// <param name="one">A task.</param>
+        /// <param name="other">Another one.</param>
+        /// <param name="given">The runs of which the claim speaks; all, if left out.</param>
+        /// <exception cref="ArgumentException">A task is of another graph.</exception>
+        public Claims Excludes(GraphTask one, GraphTask other, Given given = null)
         {
-            return Add(Json.Member("excludes", Pair(one, other)));
+            return Add(given, Json.Member("excludes", Pair(one, other)));
         }
 
-        /// <summary>The name of the claim of this number, from 1; null for none.</summary>
-        internal string NameOf(int claim)
-        {
-            return names[claim - 1];
-        }
-
-        /// <exception cref="InvalidOperationException">No claim stands behind a name, a note or a given.</exception>
-        internal void Check()
-        {
-            if (given.Count > 0 || name != null || note != null)
-            {
-                throw new InvalidOperationException("no claim stands behind the last name, note or given; add it, as Final(..)");
-            }
-        }
-
-        private static string WaysOf(TaskStatus[] ends)
+        /// <summary>The ways in which a task ends, as a member of a document.</summary>
+        /// <exception cref="ArgumentException">There is none, or one that is no end.</exception>
+        internal static string WaysOf(TaskStatus[] ends)
         {
             if (ends.Length == 0)
             {
@@ -164,54 +133,40 @@ namespace TaskGraph
             return Json.Member("in", Json.List(ends.Select(it => Json.Text(it.ToString()))));
         }
 
-        private string Pair(GraphTask one, GraphTask other)
+        /// <summary>The name of the claim of this number, from 1; null for none.</summary>
+        internal string NameOf(int claim) => names[claim - 1];
+
+        /// <exception cref="InvalidOperationException">No claim stands behind a name, a note or a given.</exception>
+        internal void Check()
         {
-            return Json.List(new[] { TextOf(one), TextOf(other) });
+            if (isGivenOpen || name != null || note != null)
+            {
+                throw new InvalidOperationException("no claim stands behind the last name, note or given; add it, as Final(..)");
+            }
         }
+
+        private GivenClaim NewGiven()
+        {
+            isGivenOpen = true;
+            return new GivenClaim(graph);
+        }
+
+        private string Pair(GraphTask one, GraphTask other) => Json.List(new[] { TextOf(one), TextOf(other) });
 
         /// <exception cref="ArgumentException">The task is of another graph.</exception>
-        private string TextOf(GraphTask task)
-        {
-            return Json.Text(graph.DemandOwn(task).Name);
-        }
+        private string TextOf(GraphTask task) => Json.Text(graph.DemandOwn(task).Name);
 
-        private GraphToken Own(GraphToken token)
+        private Claims Add(Given given, string says)
         {
-            if (token == null)
-            {
-                throw new ArgumentNullException(nameof(token));
-            }
-            return graph.DemandOwn(token);
-        }
-
-        private GraphInput Own(GraphInput input)
-        {
-            if (input == null)
-            {
-                throw new ArgumentNullException(nameof(input));
-            }
-            return graph.DemandOwn(input);
-        }
-
-        private Claims Give(string ofVersion3)
-        {
-            isOfVersion3 = true;
-            given.Add(ofVersion3);
-            return this;
-        }
-
-        private Claims Add(string says)
-        {
-            isOfVersion3 |= name != null || note != null;
-            Texts.Add(Json.Object(About().Concat(new[] { says }).ToArray()));
+            texts.Add(Json.Object(About(given).Concat(new[] { says }).ToArray()));
             names.Add(name);
-            given.Clear();
             name = note = null;
+            isGivenOpen = false;
             return this;
         }
 
         /// <summary>What the next claim says beside its sort.</summary>
-        private IEnumerable<string> About()
+        private IEnumerable<string> About(Given given)
         {
             if (name != null)
             {
@@ -221,9 +176,9 @@ namespace TaskGraph
             {
                 yield return Json.Member("note", Json.Text(note));
             }
-            if (given.Count > 0)
+            if (given != null && given.Texts.Count > 0)
             {
-                yield return Json.Member("given", Json.List(given));
+                yield return Json.Member("given", Json.List(given.Texts));
             }
         }
     }

@@ -7,9 +7,8 @@ namespace TaskGraph.Internals
     /// <summary>Writes a graph as a document for taskgraph.</summary>
     internal sealed class GraphDocument
     {
-        private const string Plain = "1";
-        private const string WithLinkedTokens = "2";
-        private const string Version3 = "3";
+        // the newest one, whatever the graph says: its certificates are judged by the widest rules
+        private const string Version = "3";
 
         private readonly TaskGraphBuilder graph;
 
@@ -19,16 +18,10 @@ namespace TaskGraph.Internals
         }
 
         /// <summary>The graph and its claims.</summary>
-        internal string Write()
-        {
-            return Write(LeastVersion());
-        }
+        internal string Write() => Write(new string[0]);
 
         /// <summary>The same with a certificate of the claims.</summary>
-        internal string WriteWith(string certificate)
-        {
-            return Write(LeastVersion(), Json.Member("certificate", certificate));
-        }
+        internal string WriteWith(string certificate) => Write(Json.Member("certificate", certificate));
 
         /// <summary>The same with what was recorded of a run: the journal as far as it says what happened, how each task was seen to end,
         /// and the times.</summary>
@@ -37,12 +30,12 @@ namespace TaskGraph.Internals
             string ends = Json.Object(run.Ends.Select(it => Json.Member(it.Key.Name, Json.Text(it.Value.ToString()))).ToArray());
             string times = Json.List(run.Times.Take(run.Sayable).Select(it => it.ToString(CultureInfo.InvariantCulture)));
             string journal = Json.Text(run.SayableJournal);
-            return Write(Version3, Json.Member("ended", ends), Json.Member("times", times), Json.Member("journal", journal));
+            return Write(Json.Member("ended", ends), Json.Member("times", times), Json.Member("journal", journal));
         }
 
-        private string Write(string version, params string[] further)
+        private string Write(params string[] further)
         {
-            var members = new List<string> { Json.Member("version", version) };
+            var members = new List<string> { Json.Member("version", Version) };
             AddNote(members, graph.Note);
             AddList(members, "inputs", graph.Inputs.Select(it => Json.Text(it.Name)));
             AddList(members, "tokens", graph.Tokens.Select(TokenOf));
@@ -58,14 +51,6 @@ namespace TaskGraph.Internals
             }
             members.AddRange(further);
             return "{" + string.Join(",\n ", members) + "}\n";
-        }
-
-        /// <summary>The least version that says all of the graph and its claims.</summary>
-        private string LeastVersion()
-        {
-            bool isLinked = graph.Tokens.Any(it => it.Sources.Length > 0);
-            bool isNoted = graph.Note != null || graph.Tasks.Any(it => it.Note != null);
-            return isNoted || graph.Claims.NeedVersion3 ? Version3 : isLinked ? WithLinkedTokens : Plain;
         }
 
         private static void AddNote(List<string> members, string note)
@@ -89,10 +74,7 @@ namespace TaskGraph.Internals
             return Json.Member(name, "[\n  " + string.Join(",\n  ", items) + "]");
         }
 
-        private static string Names(IEnumerable<GraphTask> tasks)
-        {
-            return Json.List(tasks.Select(it => Json.Text(it.Name)));
-        }
+        private static string Names(IEnumerable<GraphTask> tasks) => Json.List(tasks.Select(it => Json.Text(it.Name)));
 
         private static string TokenOf(GraphToken token)
         {
@@ -110,7 +92,7 @@ namespace TaskGraph.Internals
             {
                 Json.Member("name", Json.Text(task.Name)), Json.Member("kind", Json.Text(task.Kind.ToString().ToLowerInvariant())),
             };
-            AddNote(members, task.Note);
+            AddNote(members, task.Noted);
             if (task.Antecedent != null)
             {
                 members.Add(Json.Member("after", Json.Text(task.Antecedent.Name)));
@@ -131,10 +113,7 @@ namespace TaskGraph.Internals
             return Json.Object(members.ToArray());
         }
 
-        private static string BodyOf(Steps body)
-        {
-            return Json.List(body.List.Select(StatementOf));
-        }
+        private static string BodyOf(Steps body) => Json.List(body.List.Select(StatementOf));
 
         private static string StatementOf(Step step)
         {
@@ -152,10 +131,7 @@ namespace TaskGraph.Internals
             }
         }
 
-        private static string Statement(string word, string name)
-        {
-            return Json.Object(Json.Member(word, Json.Text(name)));
-        }
+        private static string Statement(string word, string name) => Json.Object(Json.Member(word, Json.Text(name)));
 
         private static string MayFail(string site)
         {

@@ -67,6 +67,19 @@ namespace TaskGraph.Internals
             CheckSites(tasks);
         }
 
+        /// <exception cref="ArgumentException">A site that is to fail isn't there, or its job isn't declared with mayFail.</exception>
+        internal static void CheckFailing(IEnumerable<GraphTask> tasks, IEnumerable<string> sites)
+        {
+            Step[] jobs = tasks.Where(it => it.Body != null).SelectMany(it => it.Body.All).Where(it => it.Kind == StepKind.Work).ToArray();
+            foreach (string site in sites.Where(it => !jobs.Any(job => job.Text == it && job.MayFail)))
+            {
+                throw new ArgumentException(
+                    jobs.Any(it => it.Text == site)
+                        ? "the job " + site + " isn't declared with mayFail, and so can't fail; declare it so"
+                        : "no job is named " + site + "; there are " + string.Join(", ", jobs.Select(it => it.Text)));
+            }
+        }
+
         private static void CheckOptions(GraphTask task)
         {
             const TaskContinuationOptions longAndSync =

@@ -1,6 +1,7 @@
 using System;
 using System.Collections.Generic;
 using System.Diagnostics;
+using System.Diagnostics.CodeAnalysis;
 using System.Linq;
 using System.Threading;
 using System.Threading.Tasks;
@@ -20,43 +21,32 @@ namespace TaskGraph
         private readonly Recorder recorder;
         private RunAccount account;
 
-        internal GraphRun(TaskGraphBuilder graph, RunOptions options)
+        internal GraphRun(TaskGraphBuilder graph, RunOptions options, bool isOfCode)
         {
             this.graph = graph;
             this.options = options;
-            recorder = new Recorder(graph, options.Record);
+            recorder = new Recorder(graph, options.Record, isOfCode);
         }
 
         /// <summary>The real task; null where it isn't made yet.</summary>
-        public Task this[GraphTask task]
-        {
-            get { return recorder.Real(task.Id); }
-        }
+        [MaybeNull]
+        public Task this[GraphTask task] => recorder.Real(task.Id);
 
         /// <summary>The journal so far, an event on each line; that of a complete run once <see cref="Wait"/> gave true.</summary>
-        public string Journal
-        {
-            get { return Account().Journal; }
-        }
+        /// <exception cref="InvalidOperationException">The run isn't recorded: RunOptions.Record is false.</exception>
+        public string Journal => Account().Journal;
 
         /// <summary>Where the recorder had to choose, or saw what the declaration doesn't say; empty for a plain run.</summary>
-        public IReadOnlyList<RunNote> Notes
-        {
-            get { return Account().Notes; }
-        }
+        /// <exception cref="InvalidOperationException">The run isn't recorded: RunOptions.Record is false.</exception>
+        public IReadOnlyList<RunNote> Notes => Account().Notes;
 
         /// <summary>When each event of the journal was, in microseconds from the start; they don't fall. An end, or a request that the
         /// outside made, has the time of the last record before it was seen.</summary>
-        public IReadOnlyList<long> Times
-        {
-            get { return Account().Times; }
-        }
+        /// <exception cref="InvalidOperationException">The run isn't recorded: RunOptions.Record is false.</exception>
+        public IReadOnlyList<long> Times => Account().Times;
 
         /// <summary>How the task was seen to end; null where it hasn't ended, or never started.</summary>
-        public TaskStatus? EndOf(GraphTask task)
-        {
-            return recorder.EndOf(task.Id);
-        }
+        public TaskStatus? EndOf(GraphTask task) => recorder.EndOf(task.Id);
 
         /// <summary>Waits until every task has ended, every started child too. It observes no exception.</summary>
         /// <param name="milliseconds">The longest wait, or -1 to wait for ever.</param>
@@ -81,17 +71,19 @@ namespace TaskGraph
         /// <summary>The document of the graph with the journal of this run, how each task was seen to end, and the times, to be kept for
         /// taskgraph audit and trace. Where <see cref="Audit"/> refuses the run since no journal says what happened, the journal ends before
         /// that, so that taskgraph audit refuses it too.</summary>
-        public string ToJson()
-        {
-            return graph.ToJson(Account());
-        }
+        /// <exception cref="InvalidOperationException">The run isn't recorded: RunOptions.Record is false.</exception>
+        public string ToJson() => graph.ToJson(Account());
 
         /// <summary>Asks whether the run is one of the graph, is complete, has no claim that fails, and whether each task ended as the
         /// journal says. Calls the program: see <see cref="TaskGraphProgram"/>.</summary>
+        /// <param name="limit">How long the call may take; ten minutes, if left out.</param>
+        /// <param name="token">Ends the call.</param>
         /// <exception cref="TaskGraphException">One of these isn't so: with the program's words, the notes and the journal.</exception>
-        public void Audit()
+        /// <exception cref="TimeoutException">The time was up before the answer was there.</exception>
+        /// <exception cref="OperationCanceledException">The token was requested before the answer was there.</exception>
+        public void Audit(TimeSpan? limit = null, CancellationToken token = default(CancellationToken))
         {
-            NewAudit().Demand();
+            NewAudit().Demand(new CallLimit(limit, token));
         }
 
         /// <summary>Says that this is the real task, which code that is watched has made. To be called before anything continues it:
@@ -113,13 +105,50 @@ namespace TaskGraph
             return real;
         }
 
-        /// <summary>Wraps the body of a root or a child for Task.Run and Task.Factory.StartNew.</summary>
-        public Action Body(GraphTask task, Action<WatchedBody> body)
+        /// <summary>Makes a call that code awaits, which is watched and stays as it is: <c>await run.Call(g["Load"], () => Load())</c>. The task
+        /// is that of the call; that an exception is read before it, as by a catch, goes without saying.</summary>
+        /// <param name="task">The task that the call is declared as.</param>
+        /// <param name="call">Makes the call.</param>
+        /// <returns>The task of the call.</returns>
+        /// <exception cref="ArgumentException">The task is of another graph.</exception>
+        /// <exception cref="InvalidOperationException">The task has a real task already: the call is made twice, and declared once.</exception>
+        public Task Call(GraphTask task, Func<Task> call) => Is(task, WatchedAsync(task, null, it => it.CallAsync(call)));
+
+        /// <summary>Makes a call that gives a result and that code awaits.</summary>
+        /// <exception cref="ArgumentException">The task is of another graph.</exception>
+        /// <exception cref="InvalidOperationException">The task has a real task already: the call is made twice, and declared
+        /// once.</exception>
+        public Task<T> Call<T>(GraphTask task, Func<Task<T>> call) => Is(task, WatchedAsync(task, null, it => it.CallAsync(call)));
+
+        /// <summary>Makes a call that code awaits and that may stop by a token.</summary>
+        /// <exception cref="ArgumentException">The task is of another graph.</exception>
+        /// <exception cref="InvalidOperationException">The task has a real task already: the call is made twice, and declared
+        /// once.</exception>
+        public Task Call(GraphTask task, GraphToken token, Func<CancellationToken, Task> call)
         {
-            return () => Watched(task, null, body);
+            return Is(task, WatchedAsync(task, null, it => it.CallAsync(token, call)));
         }
 
+        /// <summary>Makes a call that isn't awaited: <c>run.Call(g["Close"], () => Close())</c>.</summary>
+        /// <exception cref="ArgumentException">The task is of another graph.</exception>
+        /// <exception cref="InvalidOperationException">The task has a real task already: the call is made twice, and declared
+        /// once.</exception>
+        public void Call(GraphTask task, Action call)
+        {
+            Func<Task> plain = () =>
+            {
+                call();
+                return Task.FromResult(true);
+            };
+            Call(task, plain).GetAwaiter().GetResult();
+        }
+
+        /// <summary>Wraps the body of a root or a child for Task.Run and Task.Factory.StartNew.</summary>
+        /// <exception cref="ArgumentException">The task is of another graph, where the body begins.</exception>
+        public Action Body(GraphTask task, Action<WatchedBody> body) => () => Watched(task, null, body);
+
         /// <summary>Wraps the body of a root or a child that gives a result.</summary>
+        /// <exception cref="ArgumentException">The task is of another graph, where the body begins.</exception>
         public Func<T> Body<T>(GraphTask task, Func<WatchedBody, T> body)
         {
             DemandNoTask<T>("BodyAsync");
@@ -127,12 +156,14 @@ namespace TaskGraph
         }
 
         /// <summary>Wraps the body of a continuation for Task.ContinueWith.</summary>
+        /// <exception cref="ArgumentException">The task is of another graph, where the body begins.</exception>
         public Action<Task> Next(GraphTask task, Action<WatchedBody> body)
         {
             return antecedent => Watched(task, antecedent, body);
         }
 
         /// <summary>Wraps the body of a continuation that gives a result.</summary>
+        /// <exception cref="ArgumentException">The task is of another graph, where the body begins.</exception>
         public Func<Task, T> Next<T>(GraphTask task, Func<WatchedBody, T> body)
         {
             DemandNoTask<T>("NextAsync");
@@ -141,12 +172,14 @@ namespace TaskGraph
 
         /// <summary>Wraps the body of a root that is an async method, for Task.Run. The graph's task is the one that Task.Run
         /// gives.</summary>
+        /// <exception cref="ArgumentException">The task is of another graph, where the body begins.</exception>
         public Func<Task> BodyAsync(GraphTask task, Func<WatchedBody, Task> body)
         {
             return () => WatchedAsync(task, null, body);
         }
 
         /// <summary>Wraps the body of a root that is an async method with a result, for Task.Run.</summary>
+        /// <exception cref="ArgumentException">The task is of another graph, where the body begins.</exception>
         public Func<Task<T>> BodyAsync<T>(GraphTask task, Func<WatchedBody, Task<T>> body)
         {
             return () => WatchedAsync(task, null, body);
@@ -154,21 +187,20 @@ namespace TaskGraph
 
         /// <summary>Wraps the body of a continuation that is an async method, for Task.ContinueWith. The graph's task is the unwrapped
         /// one: ContinueWith(..).Unwrap().</summary>
+        /// <exception cref="ArgumentException">The task is of another graph, where the body begins.</exception>
         public Func<Task, Task> NextAsync(GraphTask task, Func<WatchedBody, Task> body)
         {
             return antecedent => WatchedAsync(task, antecedent, body);
         }
 
         /// <summary>Wraps the body of a continuation that is an async method with a result: ContinueWith(..).Unwrap().</summary>
+        /// <exception cref="ArgumentException">The task is of another graph, where the body begins.</exception>
         public Func<Task, Task<T>> NextAsync<T>(GraphTask task, Func<WatchedBody, Task<T>> body)
         {
             return antecedent => WatchedAsync(task, antecedent, body);
         }
 
-        internal Recorder Recorder
-        {
-            get { return recorder; }
-        }
+        internal Recorder Recorder => recorder;
 
         /// <summary>Makes the real tasks, each with just the options that are declared.</summary>
         internal void Begin()
@@ -200,10 +232,7 @@ namespace TaskGraph
             StartOrCancel(MakeBody(child));
         }
 
-        internal RunAudit NewAudit()
-        {
-            return new RunAudit(graph, Account());
-        }
+        internal RunAudit NewAudit() => new RunAudit(graph, Account());
 
         private RunAccount Account()
         {
@@ -285,10 +314,7 @@ namespace TaskGraph
 
         /// <summary>A task that hasn't ended; null where there is none. A child is made before its parent ends, so where every task that
         /// was there has ended, a second round finds the children that were made during the first.</summary>
-        private Task FirstOpen()
-        {
-            return FirstOpenInRound() ?? FirstOpenInRound();
-        }
+        private Task FirstOpen() => FirstOpenInRound() ?? FirstOpenInRound();
 
         private Task FirstOpenInRound()
         {
@@ -306,6 +332,7 @@ namespace TaskGraph
 
         private void Watched(GraphTask task, Task antecedent, Action<WatchedBody> body)
         {
+            recorder.RanIn(task.Id, Task.CurrentId);
             WatchedBody watched = BeginWatched(task, antecedent);
             try
             {
@@ -319,6 +346,7 @@ namespace TaskGraph
 
         private T Watched<T>(GraphTask task, Task antecedent, Func<WatchedBody, T> body)
         {
+            recorder.RanIn(task.Id, Task.CurrentId);
             WatchedBody watched = BeginWatched(task, antecedent);
             try
             {

@@ -1,4 +1,5 @@
 using System;
+using System.Diagnostics.CodeAnalysis;
 using System.Linq;
 using System.Threading;
 
@@ -8,7 +9,7 @@ namespace TaskGraph
     /// <remarks>Made by <see cref="TaskGraphBuilder.Token(string)"/>, its overloads and <see cref="TaskGraphBuilder.Linked"/>.</remarks>
     public sealed class GraphToken
     {
-        internal readonly GraphToken[] Sources;
+        internal GraphToken[] Sources { get; }
 
         internal GraphToken(int id, string name, CancellationTokenSource source, CancellationToken token, GraphToken[] sources)
         {
@@ -19,16 +20,17 @@ namespace TaskGraph
             Sources = sources;
         }
 
-        internal int Id { get; private set; }
+        internal int Id { get; }
 
         /// <summary>The token's name in the document.</summary>
-        public string Name { get; private set; }
+        public string Name { get; }
 
         /// <summary>The source of the token; null where the token came from elsewhere, as RequestAborted does.</summary>
-        public CancellationTokenSource Source { get; private set; }
+        [MaybeNull]
+        public CancellationTokenSource Source { get; }
 
         /// <summary>The real token.</summary>
-        public CancellationToken CancellationToken { get; private set; }
+        public CancellationToken CancellationToken { get; }
 
         /// <summary>Gives the real token, so that a graph's token can be handed to any call that takes one.</summary>
         public static implicit operator CancellationToken(GraphToken token)
@@ -53,9 +55,6 @@ namespace TaskGraph
         }
 
         /// <summary>Whether a request of this token requests the other one too: it is the other one, or a source of it.</summary>
-        internal bool Requests(GraphToken other)
-        {
-            return this == other || other.Sources.Any(Requests);
-        }
+        internal bool Requests(GraphToken other) => this == other || other.Sources.Any(Requests);
     }
 }

@@ -14,34 +14,16 @@ namespace TaskGraph.Internals
             return "\"" + (escaped.Any(IsControl) ? string.Concat(escaped.Select(Escaped)) : escaped) + "\"";
         }
 
-        internal static string Bool(bool value)
-        {
-            return value ? "true" : "false";
-        }
+        internal static string Bool(bool value) => value ? "true" : "false";
 
-        internal static string List(IEnumerable<string> items)
-        {
-            return "[" + string.Join(",", items) + "]";
-        }
+        internal static string List(IEnumerable<string> items) => "[" + string.Join(",", items) + "]";
 
-        internal static string Member(string name, string value)
-        {
-            return Text(name) + ":" + value;
-        }
+        internal static string Member(string name, string value) => Text(name) + ":" + value;
 
-        internal static string Object(params string[] members)
-        {
-            return "{" + string.Join(",", members) + "}";
-        }
+        internal static string Object(params string[] members) => "{" + string.Join(",", members) + "}";
 
-        private static bool IsControl(char it)
-        {
-            return it < FirstPlain;
-        }
+        private static bool IsControl(char it) => it < FirstPlain;
 
-        private static string Escaped(char it)
-        {
-            return IsControl(it) ? "\\u" + ((int)it).ToString("x4") : it.ToString();
-        }
+        private static string Escaped(char it) => IsControl(it) ? "\\u" + ((int)it).ToString("x4") : it.ToString();
     }
 }

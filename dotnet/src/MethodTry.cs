@@ -33,44 +33,45 @@ namespace TaskGraph.Internals
             var ends = new List<GraphTask>();
             if (mayBeCanceled)
             {
-                ends.Add(tried.ContinueWith(graph.FreeName("NotCanceled"), new Steps(), TaskContinuationOptions.NotOnCanceled));
+                ends.Add(tried.ContinueWith(graph.FreeName("NotCanceled"), new Steps(), TaskContinuationOptions.NotOnCanceled).AsPart(null));
             }
-            ends.Add(handler.ContinueWith(graph.FreeName("Rethrow"), new Steps().When(TaskStatus.Faulted, again)));
+            ends.Add(handler.ContinueWith(graph.FreeName("Rethrow"), new Steps().When(TaskStatus.Faulted, again)).AsPart(null));
             return ends.ToArray();
         }
 
         /// <summary>One task that ends as these do together.</summary>
         internal static GraphTask Join(TaskGraphBuilder graph, GraphTask[] ends)
         {
-            return ends.Length == 1 ? ends[0] : graph.WhenAll(graph.FreeName("Finished"), ends);
+            return ends.Length == 1 ? ends[0] : graph.WhenAll(graph.FreeName("Finished"), ends).AsPart(null);
         }
 
-        internal void Catch(string name, Steps handler, bool isThrownAgain)
+        internal void Catch(string name, Steps handler, bool isThrownAgain, string origin)
         {
             if (caught != null || after != null)
             {
                 throw new InvalidOperationException("a Try has one Catch, before its Finally; let the handler tell the exceptions apart");
             }
             rethrows = isThrownAgain;
-            caught = tried.ContinueWith(name, new Steps().Observe().Append(handler), TaskContinuationOptions.OnlyOnFaulted);
+            Steps body = new Steps().Observe().Append(handler);
+            caught = tried.ContinueWith(name, body, TaskContinuationOptions.OnlyOnFaulted).AsPart(origin);
         }
 
-        internal void Finally(string name, Steps body)
+        internal void Finally(string name, Steps body, string origin)
         {
             if (after != null)
             {
                 throw new InvalidOperationException("a Try has one Finally; put both actions into its steps");
             }
-            GraphTask both = caught == null ? tried : graph.WhenAll(graph.FreeName("Caught"), tried, caught);
-            if (entered == null)
-            {
-                after = both.ContinueWith(name, body);
-                return;
-            }
-            // only where the try was reached
-            GraphTask left = both.ContinueWith(graph.FreeName("Left"), new Steps());
-            GraphTask reached = graph.WhenAll(graph.FreeName("Entered"), entered, left);
-            after = reached.ContinueWith(name, body, TaskContinuationOptions.OnlyOnRanToCompletion);
+            GraphTask both = caught == null ? tried : graph.WhenAll(graph.FreeName("Caught"), tried, caught).AsPart(null);
+            after = (entered == null ? both.ContinueWith(name, body) : AfterEntered(both, name, body)).AsPart(origin);
+        }
+
+        /// <summary>A finally that runs only where the try was reached.</summary>
+        private GraphTask AfterEntered(GraphTask both, string name, Steps body)
+        {
+            GraphTask left = both.ContinueWith(graph.FreeName("Left"), new Steps()).AsPart(null);
+            GraphTask reached = graph.WhenAll(graph.FreeName("Entered"), entered, left).AsPart(null);
+            return reached.ContinueWith(name, body, TaskContinuationOptions.OnlyOnRanToCompletion);
         }
 
         /// <exception cref="InvalidOperationException">It has neither a catch nor a finally.</exception>

@@ -51,14 +51,8 @@ namespace TaskGraph.Internals
             return true;
         }
 
-        private static bool IsDigit(char it)
-        {
-            return it >= '0' && it <= '9';
-        }
+        private static bool IsDigit(char it) => it >= '0' && it <= '9';
 
-        private static bool IsLetter(char it)
-        {
-            return (it >= 'a' && it <= 'z') || (it >= 'A' && it <= 'Z');
-        }
+        private static bool IsLetter(char it) => (it >= 'a' && it <= 'z') || (it >= 'A' && it <= 'Z');
     }
 }

@@ -53,9 +53,6 @@ namespace TaskGraph.Internals
             }
         }
 
-        private static string Word(TaskContinuationOptions option)
-        {
-            return option.ToString();
-        }
+        private static string Word(TaskContinuationOptions option) => option.ToString();
     }
 }

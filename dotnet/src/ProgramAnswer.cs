@@ -11,12 +11,12 @@ namespace TaskGraph
         }
 
         /// <summary>The exit status: 0 for yes, 1 for no, 3 for what can't be read.</summary>
-        public int ExitCode { get; private set; }
+        public int ExitCode { get; }
 
         /// <summary>What stands on standard output.</summary>
-        public string Output { get; private set; }
+        public string Output { get; }
 
         /// <summary>What stands on standard error: with --explain the reasons.</summary>
-        public string Error { get; private set; }
+        public string Error { get; }
     }
 }

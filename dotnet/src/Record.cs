@@ -7,21 +7,21 @@ namespace TaskGraph.Internals
         /// <summary>The task of a record that no body made.</summary>
         internal const int NoTask = -1;
 
-        internal RecordKind Kind;
+        internal RecordKind Kind { get; set; }
 
         /// <summary>Whose body made it.</summary>
-        internal int Task;
+        internal int Task { get; set; }
 
         /// <summary>The token of a check or a cancel; the child of a start.</summary>
-        internal int Target;
+        internal int Target { get; set; }
 
         /// <summary>The number of the worker.</summary>
-        internal byte Worker;
+        internal byte Worker { get; set; }
 
         /// <summary>How many ends and requests had been seen.</summary>
-        internal int Seen;
+        internal int Seen { get; set; }
 
         /// <summary>Ticks of Stopwatch since the run began.</summary>
-        internal long Time;
+        internal long Time { get; set; }
     }
 }

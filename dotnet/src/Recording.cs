@@ -8,15 +8,15 @@ namespace TaskGraph.Internals
     internal sealed class Recording
     {
         /// <summary>The records, the last of which is a look.</summary>
-        internal readonly Record[] Records;
+        internal Record[] Records { get; }
 
         /// <summary>What was seen, in order: a task that ended as its number, a requested token by <see cref="TokenSeen"/>.</summary>
-        internal readonly int[] Seen;
+        internal int[] Seen { get; }
 
-        internal readonly bool[] IsFinal;
-        internal readonly TaskStatus[] Ends;
-        internal readonly Task[] Real;
-        internal readonly RunNote[] Notes;
+        internal bool[] IsFinal { get; }
+        internal TaskStatus[] Ends { get; }
+        internal Task[] Real { get; }
+        internal RunNote[] Notes { get; }
 
         internal Recording(
             IEnumerable<Record> records, IEnumerable<int> seen, bool[] isFinal, TaskStatus[] ends, Task[] real, IEnumerable<RunNote> notes)
@@ -30,9 +30,6 @@ namespace TaskGraph.Internals
         }
 
         /// <summary>The token of this number, among what was seen; and back.</summary>
-        internal static int TokenSeen(int token)
-        {
-            return ~token;
-        }
+        internal static int TokenSeen(int token) => ~token;
     }
 }

@@ -23,10 +23,7 @@ namespace TaskGraph.Internals
         }
 
         /// <summary>The requests, in the order in which they were seen.</summary>
-        internal IReadOnlyList<Request> Requests
-        {
-            get { return requests; }
-        }
+        internal IReadOnlyList<Request> Requests => requests;
 
         /// <summary>The gap into which the task's begin is written, before a request; none where it stands at its record.</summary>
         internal int BeginGap(GraphTask task)
@@ -40,10 +37,7 @@ namespace TaskGraph.Internals
             return before.Length == 0 ? Timeline.None : before.Min();
         }
 
-        private bool IsRequested(GraphToken token)
-        {
-            return times.RequestGap[token.Id] != Timeline.Never;
-        }
+        private bool IsRequested(GraphToken token) => times.RequestGap[token.Id] != Timeline.Never;
 
         private void Add(GraphToken token, int gap)
         {

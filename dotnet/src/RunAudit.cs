@@ -21,24 +21,30 @@ namespace TaskGraph.Internals
         }
 
         /// <summary>What no journal can say of the run; null where there is no such thing.</summary>
-        internal RunNote Unsayable
-        {
-            get { return account.Notes.FirstOrDefault(it => it.Kind == RunNoteKind.WinnerLookedAt || it.Kind == RunNoteKind.Unexplained); }
-        }
+        internal RunNote Unsayable =>
+            account.Notes.FirstOrDefault(it => it.Kind == RunNoteKind.WinnerLookedAt || it.Kind == RunNoteKind.Unexplained);
 
         /// <exception cref="TaskGraphException">The program says no, or no journal says what happened.</exception>
-        internal void Demand()
+        internal void Demand(CallLimit limit)
         {
             if (Unsayable != null)
             {
-                throw new TaskGraphException("no journal says what happened: " + Unsayable.Text + "\n" + Told());
+                throw new TaskGraphException(Lead() + "no journal says what happened: " + Unsayable.Text + "\n" + Told());
             }
-            ProgramAnswer answer = TaskGraphProgram.Call("audit --explain", graph.ToJson(account));
+            ProgramAnswer answer = limit.Call("audit --explain", graph.ToJson(account));
             if (answer.ExitCode != 0)
             {
-                throw new TaskGraphException(OtherEnd(answer) + answer.Output + answer.Error + Hint(answer) + Told());
+                throw new TaskGraphException(Lead() + OtherEnd(answer) + answer.Output + answer.Error + Hint(answer) + Told());
             }
         }
+
+        private static bool IsCause(RunNote note)
+        {
+            return note.Kind == RunNoteKind.Undeclared || note.Kind == RunNoteKind.Unreported || note.Kind == RunNoteKind.OtherTask;
+        }
+
+        /// <summary>What is wrong with the declaration or the wrapping of code, which comes first: the answer follows from it.</summary>
+        private string Lead() => string.Concat(account.Notes.Where(IsCause).Select(it => it.Text + "\n"));
 
         /// <summary>Where a task was seen to end otherwise than the journal says, that in words.</summary>
         private string OtherEnd(ProgramAnswer answer)
@@ -60,14 +66,25 @@ namespace TaskGraph.Internals
             {
                 return "";
             }
-            return account.Unmade.Count == 0
-                ? "before Audit, call Wait, which gives true once every task has ended\n"
-                : "hand the real task to Is: " + string.Join(", ", account.Unmade.Select(it => it.Name)) + "\n";
+            if (account.Unmade.Count == 0)
+            {
+                return "before Audit, call Wait, which gives true once every task has ended\n";
+            }
+            const string noCall = "the code makes no such call, and by the declaration it does; make it by run.Call, or declare the method"
+                + " otherwise: ";
+            return Missing(noCall, true) + Missing("hand the real task to Is: ", false);
+        }
+
+        private string Missing(string advice, bool isOfMethod)
+        {
+            string[] names = account.Unmade.Where(it => it.IsOfMethod == isOfMethod).Select(it => it.Name).ToArray();
+            return names.Length == 0 ? "" : advice + string.Join(", ", names) + "\n";
         }
 
         private string Told()
         {
-            return string.Concat(account.Notes.Select(it => it + "\n")) + account.Journal;
+            string notes = string.Concat(account.Notes.Where(it => !IsCause(it)).Select(it => it + "\n"));
+            return notes + EventLines.Beside(graph.Tasks, account.Journal);
         }
     }
 }

@@ -10,15 +10,12 @@ namespace TaskGraph
         }
 
         /// <summary>What the note is about.</summary>
-        public RunNoteKind Kind { get; private set; }
+        public RunNoteKind Kind { get; }
 
         /// <summary>The note in words.</summary>
-        public string Text { get; private set; }
+        public string Text { get; }
 
         /// <summary>Gives the kind and the words.</summary>
-        public override string ToString()
-        {
-            return Kind + ": " + Text;
-        }
+        public override string ToString() => Kind + ": " + Text;
     }
 }

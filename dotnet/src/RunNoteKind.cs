@@ -31,5 +31,11 @@ namespace TaskGraph
 
         /// <summary>A callback of a token threw out of Cancel.</summary>
         Callback,
+
+        /// <summary>A wrapped body did its job elsewhere than in Work, so that nobody saw it.</summary>
+        Unreported,
+
+        /// <summary>A wrapped body ran in another task than the one that Is names.</summary>
+        OtherTask,
     }
 }

@@ -14,18 +14,23 @@ namespace TaskGraph
     /// before the document of their graph is made and before it is started.</remarks>
     public sealed class Steps
     {
-        internal readonly List<Step> List = new List<Step>();
+        internal List<Step> List { get; } = new List<Step>();
         private bool isClosed;
 
-        /// <summary>Ends the body, as a return statement does.</summary>
-        public Steps Return()
+        /// <summary>Makes a list without steps.</summary>
+        public Steps()
         {
-            return Add(new Step { Kind = StepKind.Return });
         }
+
+        /// <summary>Ends the body, as a return statement does.</summary>
+        /// <exception cref="InvalidOperationException">The graph is complete: its document was made, or it was started.</exception>
+        public Steps Return() => Add(new Step { Kind = StepKind.Return });
 
         /// <summary>Ends the body by an exception.</summary>
         /// <param name="label">What the document calls the exception.</param>
         /// <param name="exception">Makes the exception; an InvalidOperationException if left out.</param>
+        /// <exception cref="ArgumentException">It is no name.</exception>
+        /// <exception cref="InvalidOperationException">The graph is complete: its document was made, or it was started.</exception>
         public Steps Throw(string label, Func<Exception> exception = null)
         {
             return ThrowOf(label, _ => exception == null ? new InvalidOperationException(label) : exception());
@@ -37,6 +42,7 @@ namespace TaskGraph
         }
 
         /// <summary>Ends the body where the token is requested: CancellationToken.ThrowIfCancellationRequested.</summary>
+        /// <exception cref="InvalidOperationException">The graph is complete: its document was made, or it was started.</exception>
         public Steps Check(GraphToken token)
         {
             return Add(new Step { Kind = StepKind.Check, Token = NotNull(token, nameof(token)) });
@@ -52,7 +58,8 @@ namespace TaskGraph
 
         /// <summary>Starts a child: Task.Factory.StartNew inside a body.</summary>
         /// <param name="child">A task that was made by <see cref="TaskGraphBuilder.Child(string, Steps, TaskCreationOptions,
-        /// GraphToken)"/>.</param>
+        /// GraphToken, string, int)"/>.</param>
+        /// <exception cref="ArgumentException">It isn't a task that Child made.</exception>
         public Steps Start(GraphTask child)
         {
             if (child == null || child.Kind != TaskKind.Child)
@@ -64,15 +71,15 @@ namespace TaskGraph
 
         /// <summary>Reads the exception of the antecedent, or of the winner where the antecedent is a WhenAny task:
         /// Task.Exception.</summary>
-        public Steps Observe()
-        {
-            return Add(new Step { Kind = StepKind.Observe });
-        }
+        /// <exception cref="InvalidOperationException">The graph is complete: its document was made, or it was started.</exception>
+        public Steps Observe() => Add(new Step { Kind = StepKind.Observe });
 
         /// <summary>Does a job.</summary>
         /// <param name="site">The job's name, which stands once in a graph.</param>
         /// <param name="job">Code that touches no task and no token of the graph.</param>
         /// <param name="mayFail">Whether the job may throw.</param>
+        /// <exception cref="ArgumentException">It is no name.</exception>
+        /// <exception cref="InvalidOperationException">The graph is complete: its document was made, or it was started.</exception>
         public Steps Work(string site, Action job, bool mayFail = false)
         {
             NotNull(job, nameof(job));
@@ -81,6 +88,8 @@ namespace TaskGraph
 
         /// <summary>Does a job that is given the antecedent, whose result it may read. Where it reads the exception, let
         /// <see cref="Observe"/> stand before it.</summary>
+        /// <exception cref="ArgumentException">It is no name.</exception>
+        /// <exception cref="InvalidOperationException">The graph is complete: its document was made, or it was started.</exception>
         public Steps Work(string site, Action<Task> job, bool mayFail = false)
         {
             return AddJob(site, null, NotNull(job, nameof(job)), null, mayFail);
@@ -88,6 +97,8 @@ namespace TaskGraph
 
         /// <summary>Does a job that may stop by the token, and then checks the token. Where the job throws the
         /// OperationCanceledException of the requested token, it counts as done, and the check ends the body.</summary>
+        /// <exception cref="ArgumentException">It is no name.</exception>
+        /// <exception cref="InvalidOperationException">The graph is complete: its document was made, or it was started.</exception>
         public Steps Work(string site, GraphToken token, Action<CancellationToken> job, bool mayFail = false)
         {
             CancellationToken real = NotNull(token, nameof(token));
@@ -96,6 +107,8 @@ namespace TaskGraph
         }
 
         /// <summary>Awaits a job.</summary>
+        /// <exception cref="ArgumentException">It is no name.</exception>
+        /// <exception cref="InvalidOperationException">The graph is complete: its document was made, or it was started.</exception>
         public Steps Work(string site, Func<Task> job, bool mayFail = false)
         {
             NotNull(job, nameof(job));
@@ -104,6 +117,8 @@ namespace TaskGraph
 
         /// <summary>Awaits a job that is given the antecedent, whose result it may read. Where it reads the exception, let
         /// <see cref="Observe"/> stand before it.</summary>
+        /// <exception cref="ArgumentException">It is no name.</exception>
+        /// <exception cref="InvalidOperationException">The graph is complete: its document was made, or it was started.</exception>
         public Steps Work(string site, Func<Task, Task> job, bool mayFail = false)
         {
             return AddJob(site, null, null, NotNull(job, nameof(job)), mayFail);
@@ -111,6 +126,8 @@ namespace TaskGraph
 
         /// <summary>Awaits a job that may stop by the token, and then checks the token. Where the job throws the
         /// OperationCanceledException of the requested token, it counts as done, and the check ends the body.</summary>
+        /// <exception cref="ArgumentException">It is no name.</exception>
+        /// <exception cref="InvalidOperationException">The graph is complete: its document was made, or it was started.</exception>
         public Steps Work(string site, GraphToken token, Func<CancellationToken, Task> job, bool mayFail = false)
         {
             CancellationToken real = NotNull(token, nameof(token));
@@ -122,6 +139,7 @@ namespace TaskGraph
         /// <param name="input">The input.</param>
         /// <param name="then">What is done where it is true.</param>
         /// <param name="otherwise">What is done where it is false; nothing if left out.</param>
+        /// <exception cref="InvalidOperationException">The graph is complete: its document was made, or it was started.</exception>
         public Steps If(GraphInput input, Steps then, Steps otherwise = null)
         {
             if (input == null || then == null)
@@ -136,6 +154,7 @@ namespace TaskGraph
         /// <param name="final">RanToCompletion, Canceled or Faulted.</param>
         /// <param name="then">What is done where it ended so.</param>
         /// <param name="otherwise">What is done where it didn't; nothing if left out.</param>
+        /// <exception cref="ArgumentException">No task ends so.</exception>
         public Steps When(TaskStatus final, Steps then, Steps otherwise = null)
         {
             GraphRules.CheckFinal(final);
@@ -147,6 +166,7 @@ namespace TaskGraph
         }
 
         /// <summary>Adds the steps of another list.</summary>
+        /// <exception cref="InvalidOperationException">The graph is complete: its document was made, or it was started.</exception>
         public Steps Append(Steps other)
         {
             foreach (Step step in NotNull(other, nameof(other)).List.ToArray())
@@ -157,21 +177,13 @@ namespace TaskGraph
         }
 
         /// <summary>Each step, those of branches too, in textual order.</summary>
-        internal IEnumerable<Step> All
-        {
-            get { return List.SelectMany(it => it.IsBranch ? new[] { it }.Concat(it.Then.All).Concat(it.Otherwise.All) : new[] { it }); }
-        }
+        internal IEnumerable<Step> All =>
+            List.SelectMany(it => it.IsBranch ? new[] { it }.Concat(it.Then.All).Concat(it.Otherwise.All) : new[] { it });
 
-        internal bool IsAsync
-        {
-            get { return All.Any(it => it.AsyncJob != null); }
-        }
+        internal bool IsAsync => All.Any(it => it.AsyncJob != null);
 
         /// <summary>Whether the body looks at how its subject ended.</summary>
-        internal bool LooksAtSubject
-        {
-            get { return All.Any(it => it.Kind == StepKind.Observe || it.Kind == StepKind.When); }
-        }
+        internal bool LooksAtSubject => All.Any(it => it.Kind == StepKind.Observe || it.Kind == StepKind.When);
 
         /// <summary>Takes no more steps, since the graph is complete.</summary>
         internal void Close()

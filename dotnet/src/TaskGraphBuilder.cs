@@ -1,6 +1,8 @@
 using System;
 using System.Collections.Generic;
+using System.Diagnostics.CodeAnalysis;
 using System.Linq;
+using System.Runtime.CompilerServices;
 using System.Threading;
 using System.Threading.Tasks;
 using TaskGraph.Internals;
@@ -11,9 +13,9 @@ namespace TaskGraph
     /// <remarks>A graph runs at most once; build it again for another run, the document is the same.</remarks>
     public sealed class TaskGraphBuilder
     {
-        internal readonly List<GraphTask> Tasks = new List<GraphTask>();
-        internal readonly List<GraphToken> Tokens = new List<GraphToken>();
-        internal readonly List<GraphInput> Inputs = new List<GraphInput>();
+        internal List<GraphTask> Tasks { get; } = new List<GraphTask>();
+        internal List<GraphToken> Tokens { get; } = new List<GraphToken>();
+        internal List<GraphInput> Inputs { get; } = new List<GraphInput>();
         private readonly Dictionary<string, GraphTask> byName = new Dictionary<string, GraphTask>();
         private readonly List<MethodBlock> methods = new List<MethodBlock>();
         private bool isComplete;
@@ -25,28 +27,24 @@ namespace TaskGraph
         }
 
         /// <summary>What has to hold in every run.</summary>
-        public Claims Claims { get; private set; }
+        public Claims Claims { get; }
+
+        /// <summary>Something that a claim takes as given, to be said by its calls: <c>g.Given.Quiet(stop).NoFailure()</c>. Another one each
+        /// time.</summary>
+        public Given Given => new Given(this);
 
         /// <summary>The note that stands at the top of the document, for readers alone; null for none.</summary>
+        [MaybeNull]
         public string Note { get; private set; }
 
         /// <summary>The tokens, in declared order.</summary>
-        public IReadOnlyList<GraphToken> AllTokens
-        {
-            get { return Tokens; }
-        }
+        public IReadOnlyList<GraphToken> AllTokens => Tokens;
 
         /// <summary>The inputs, in declared order.</summary>
-        public IReadOnlyList<GraphInput> AllInputs
-        {
-            get { return Inputs; }
-        }
+        public IReadOnlyList<GraphInput> AllInputs => Inputs;
 
         /// <summary>The tasks, in declared order.</summary>
-        public IReadOnlyList<GraphTask> AllTasks
-        {
-            get { return Tasks; }
-        }
+        public IReadOnlyList<GraphTask> AllTasks => Tasks;
 
         /// <summary>The run that was started; null before.</summary>
         internal GraphRun StartedRun { get; private set; }
@@ -70,6 +68,7 @@ namespace TaskGraph
 
         /// <summary>Gives the graph a note.</summary>
         /// <returns>The graph.</returns>
+        /// <exception cref="InvalidOperationException">The graph is complete: its document was made, or it was started.</exception>
         public TaskGraphBuilder WithNote(string note)
         {
             DemandOpen("the note of the graph");
@@ -78,36 +77,40 @@ namespace TaskGraph
         }
 
         /// <summary>Declares a value that is fixed before the run.</summary>
-        public GraphInput Input(string name, bool value = false)
+        /// <exception cref="ArgumentException">It is no name, or that of another input.</exception>
+        public GraphInput Input(string name, bool value = false) => Add(new GraphInput(Name.Checked(name), value));
+
+        /// <summary>Declares a condition on what the run itself finds, as <c>if (cache.Has(key))</c>. For <see cref="Steps.If"/>. The document
+        /// has it as an input, so that a claim speaks of both answers unless one is given; the run notes the answer.</summary>
+        /// <param name="name">The name of the input.</param>
+        /// <param name="condition">Is asked once in a run, where a body first reads it. It throws nothing: what may throw is a job.</param>
+        /// <exception cref="ArgumentException">It is no name, or that of another input.</exception>
+        public GraphInput Decides(string name, Func<bool> condition)
         {
-            if (Inputs.Any(it => it.Name == name))
-            {
-                throw new ArgumentException("two inputs are named " + name + "; use the GraphInput that Input gave first");
-            }
-            var input = new GraphInput(Name.Checked(name), value);
-            Inputs.Add(input);
-            return input;
+            return Add(new GraphInput(Name.Checked(name), false, NotNull(condition, nameof(condition))));
         }
 
         /// <summary>Declares a token with a source of its own: new CancellationTokenSource().</summary>
-        public GraphToken Token(string name)
-        {
-            return Token(name, new CancellationTokenSource());
-        }
+        /// <exception cref="ArgumentException">The name is none, or the name or the source is that of another token of the
+        /// graph.</exception>
+        public GraphToken Token(string name) => Token(name, new CancellationTokenSource());
 
         /// <summary>Declares the token of a source that the caller has.</summary>
+        /// <exception cref="ArgumentException">The name is none, or the name or the source is that of another token of the
+        /// graph.</exception>
         public GraphToken Token(string name, CancellationTokenSource source)
         {
             return AddToken(name, source, source.Token, new GraphToken[0]);
         }
 
         /// <summary>Declares a token whose source is elsewhere: RequestAborted, ApplicationStopping.</summary>
-        public GraphToken Token(string name, CancellationToken token)
-        {
-            return AddToken(name, null, token, new GraphToken[0]);
-        }
+        /// <exception cref="ArgumentException">The name is none, or the name or the source is that of another token of the
+        /// graph.</exception>
+        public GraphToken Token(string name, CancellationToken token) => AddToken(name, null, token, new GraphToken[0]);
 
         /// <summary>Declares a token that is linked to others: CancellationTokenSource.CreateLinkedTokenSource.</summary>
+        /// <exception cref="ArgumentException">The name is none, or the name or the source is that of another token of the
+        /// graph.</exception>
         public GraphToken Linked(string name, params GraphToken[] sources)
         {
             if (sources.Length == 0)
@@ -127,80 +130,132 @@ namespace TaskGraph
         /// <param name="job">The job: code that touches no task and no token of the graph.</param>
         /// <param name="token">The task's own token; none if left out.</param>
         /// <param name="mayFail">Whether the job may throw.</param>
-        public GraphTask Run(string name, Action job, GraphToken token = null, bool mayFail = false)
+        /// <param name="file">The file that declares it; the compiler gives it.</param>
+        /// <param name="line">The line; the compiler gives it.</param>
+        /// <exception cref="ArgumentException">The name is none or taken, the options can't be together, or a task or token is of another
+        /// graph.</exception>
+        /// <exception cref="InvalidOperationException">The graph is complete: its document was made, or it was started.</exception>
+        public GraphTask Run(
+            string name, Action job, GraphToken token = null, bool mayFail = false,
+            [CallerFilePath] string file = null, [CallerLineNumber] int line = 0)
         {
-            return Run(name, new Steps().Work(name, job, mayFail), token);
+            return Run(name, new Steps().Work(name, job, mayFail), token, file, line);
         }
 
         /// <summary>Starts a task whose job is awaited: Task.Run(async ..).</summary>
-        public GraphTask Run(string name, Func<Task> job, GraphToken token = null, bool mayFail = false)
+        /// <exception cref="ArgumentException">The name is none or taken, the options can't be together, or a task or token is of another
+        /// graph.</exception>
+        /// <exception cref="InvalidOperationException">The graph is complete: its document was made, or it was started.</exception>
+        public GraphTask Run(
+            string name, Func<Task> job, GraphToken token = null, bool mayFail = false,
+            [CallerFilePath] string file = null, [CallerLineNumber] int line = 0)
         {
-            return Run(name, new Steps().Work(name, job, mayFail), token);
+            return Run(name, new Steps().Work(name, job, mayFail), token, file, line);
         }
 
         /// <summary>Starts a task with a body of several steps: Task.Run.</summary>
-        public GraphTask Run(string name, Steps body, GraphToken token = null)
+        /// <exception cref="ArgumentException">The name is none or taken, the options can't be together, or a task or token is of another
+        /// graph.</exception>
+        /// <exception cref="InvalidOperationException">The graph is complete: its document was made, or it was started.</exception>
+        public GraphTask Run(
+            string name, Steps body, GraphToken token = null,
+            [CallerFilePath] string file = null, [CallerLineNumber] int line = 0)
         {
-            return StartNew(name, body, TaskCreationOptions.DenyChildAttach, token);
+            return StartNew(name, body, TaskCreationOptions.DenyChildAttach, token, file, line);
         }
 
         /// <summary>Starts a task: Task.Factory.StartNew on the default scheduler.</summary>
+        /// <exception cref="ArgumentException">The name is none or taken, the options can't be together, or a task or token is of another
+        /// graph.</exception>
+        /// <exception cref="InvalidOperationException">The graph is complete: its document was made, or it was started.</exception>
         public GraphTask StartNew(
-            string name, Action job, TaskCreationOptions options = TaskCreationOptions.None, GraphToken token = null, bool mayFail = false)
+            string name, Action job, TaskCreationOptions options = TaskCreationOptions.None, GraphToken token = null,
+            bool mayFail = false,
+            [CallerFilePath] string file = null, [CallerLineNumber] int line = 0)
         {
-            return StartNew(name, new Steps().Work(name, job, mayFail), options, token);
+            return StartNew(name, new Steps().Work(name, job, mayFail), options, token, file, line);
         }
 
         /// <summary>Starts a task whose job is awaited: Task.Factory.StartNew(async ..).Unwrap() on the default scheduler.</summary>
+        /// <exception cref="ArgumentException">The name is none or taken, the options can't be together, or a task or token is of another
+        /// graph.</exception>
+        /// <exception cref="InvalidOperationException">The graph is complete: its document was made, or it was started.</exception>
         public GraphTask StartNew(
             string name, Func<Task> job, TaskCreationOptions options = TaskCreationOptions.None, GraphToken token = null,
-            bool mayFail = false)
+            bool mayFail = false,
+            [CallerFilePath] string file = null, [CallerLineNumber] int line = 0)
         {
-            return StartNew(name, new Steps().Work(name, job, mayFail), options, token);
+            return StartNew(name, new Steps().Work(name, job, mayFail), options, token, file, line);
         }
 
         /// <summary>Starts a task with a body of several steps: Task.Factory.StartNew on the default scheduler.</summary>
+        /// <exception cref="ArgumentException">The name is none or taken, the options can't be together, or a task or token is of another
+        /// graph.</exception>
+        /// <exception cref="InvalidOperationException">The graph is complete: its document was made, or it was started.</exception>
         public GraphTask StartNew(
-            string name, Steps body, TaskCreationOptions options = TaskCreationOptions.None, GraphToken token = null)
+            string name, Steps body, TaskCreationOptions options = TaskCreationOptions.None, GraphToken token = null,
+            [CallerFilePath] string file = null, [CallerLineNumber] int line = 0)
         {
             return Add(new GraphTask
             {
                 Name = name, Kind = TaskKind.Root, Body = body, Options = (TaskContinuationOptions)options, Token = token,
+                Origin = SourceLine.Of(file, line),
             });
         }
 
         /// <summary>Declares a task that a body starts, by <see cref="Steps.Start"/>. It stands behind its parent, so the parent's
         /// steps are made first and the start is added to them afterwards.</summary>
+        /// <exception cref="ArgumentException">The name is none or taken, the options can't be together, or a task or token is of another
+        /// graph.</exception>
+        /// <exception cref="InvalidOperationException">The graph is complete: its document was made, or it was started.</exception>
         public GraphTask Child(
-            string name, Action job, TaskCreationOptions options = TaskCreationOptions.None, GraphToken token = null, bool mayFail = false)
+            string name, Action job, TaskCreationOptions options = TaskCreationOptions.None, GraphToken token = null,
+            bool mayFail = false,
+            [CallerFilePath] string file = null, [CallerLineNumber] int line = 0)
         {
-            return Child(name, new Steps().Work(name, job, mayFail), options, token);
+            return Child(name, new Steps().Work(name, job, mayFail), options, token, file, line);
         }
 
         /// <summary>Declares a task whose job is awaited, and which a body starts by <see cref="Steps.Start"/>.</summary>
+        /// <exception cref="ArgumentException">The name is none or taken, the options can't be together, or a task or token is of another
+        /// graph.</exception>
+        /// <exception cref="InvalidOperationException">The graph is complete: its document was made, or it was started.</exception>
         public GraphTask Child(
             string name, Func<Task> job, TaskCreationOptions options = TaskCreationOptions.None, GraphToken token = null,
-            bool mayFail = false)
+            bool mayFail = false,
+            [CallerFilePath] string file = null, [CallerLineNumber] int line = 0)
         {
-            return Child(name, new Steps().Work(name, job, mayFail), options, token);
+            return Child(name, new Steps().Work(name, job, mayFail), options, token, file, line);
         }
 
         /// <summary>Declares a task with a body of several steps that a body starts, by <see cref="Steps.Start"/>.</summary>
-        public GraphTask Child(string name, Steps body, TaskCreationOptions options = TaskCreationOptions.None, GraphToken token = null)
+        /// <exception cref="ArgumentException">The name is none or taken, the options can't be together, or a task or token is of another
+        /// graph.</exception>
+        /// <exception cref="InvalidOperationException">The graph is complete: its document was made, or it was started.</exception>
+        public GraphTask Child(
+            string name, Steps body, TaskCreationOptions options = TaskCreationOptions.None, GraphToken token = null,
+            [CallerFilePath] string file = null, [CallerLineNumber] int line = 0)
         {
             return Add(new GraphTask
             {
                 Name = name, Kind = TaskKind.Child, Body = body, Options = (TaskContinuationOptions)options, Token = token,
+                Origin = SourceLine.Of(file, line),
             });
         }
 
         /// <summary>Waits for all of these tasks: Task.WhenAll.</summary>
+        /// <exception cref="ArgumentException">The name is none or taken, the options can't be together, or a task or token is of another
+        /// graph.</exception>
+        /// <exception cref="InvalidOperationException">The graph is complete: its document was made, or it was started.</exception>
         public GraphTask WhenAll(string name, params GraphTask[] tasks)
         {
             return Add(new GraphTask { Name = name, Kind = TaskKind.All, Of = Copied(tasks) });
         }
 
         /// <summary>Waits for one of these tasks: Task.WhenAny.</summary>
+        /// <exception cref="ArgumentException">The name is none or taken, the options can't be together, or a task or token is of another
+        /// graph.</exception>
+        /// <exception cref="InvalidOperationException">The graph is complete: its document was made, or it was started.</exception>
         public GraphTask WhenAny(string name, params GraphTask[] tasks)
         {
             if (NotNull(tasks, nameof(tasks)).Length == 0)
@@ -212,6 +267,7 @@ namespace TaskGraph
 
         /// <summary>Declares a method as it is written today, by awaits, try, catch and finally.</summary>
         /// <param name="name">The name of the method's task.</param>
+        /// <exception cref="ArgumentException">It is no name.</exception>
         public MethodBlock Method(string name)
         {
             var method = new MethodBlock(this, Name.Checked(name), null);
@@ -220,53 +276,77 @@ namespace TaskGraph
         }
 
         /// <summary>The document: the graph and its claims.</summary>
+        /// <exception cref="ArgumentException">A child isn't started, or is started twice; a site stands twice; an awaited body checks
+        /// another token than its task's own; or a body looks at an antecedent where there is none.</exception>
+        /// <exception cref="InvalidOperationException">A name, a note or a given stands before no claim; or a method is empty, or ends in a
+        /// Try alone.</exception>
         public string ToJson()
         {
             Complete();
             return new GraphDocument(this).Write();
         }
 
-        /// <summary>Demands that each claim holds in every run, and that none is empty: a test that needs nothing kept. A graph without
-        /// claims is accepted, and nothing is known of it then. Calls the program: see <see cref="TaskGraphProgram"/>.</summary>
+        /// <summary>Demands that each claim holds in every run, and that none is empty: a test that needs nothing kept.
+        /// Calls the program: see <see cref="TaskGraphProgram"/>.</summary>
         /// <param name="depth">The most splits on a path of a certificate, 0 to 6.</param>
         /// <param name="runs">How many random runs are tried for each claim, at most 1,000,000.</param>
-        /// <exception cref="TaskGraphException">A claim fails, is empty, or is unknown; or the document can't be read. With the verdict on
-        /// each claim in the program's words: those of a claim that fails have a run in which it does.</exception>
-        public void Verify(int depth = 6, int runs = 100000)
+        /// <param name="limit">How long it may take; ten minutes, if left out.</param>
+        /// <param name="token">Ends the search.</param>
+        /// <exception cref="TaskGraphException">A claim fails, is empty, or is unknown; there is no claim; or the document can't be read. With
+        /// the verdict on each claim in the program's words: those of a claim that fails have a run in which it does, with the line of C# beside
+        /// each event.</exception>
+        /// <exception cref="TimeoutException">The time was up before the answer was there.</exception>
+        /// <exception cref="OperationCanceledException">The token was requested before the answer was there.</exception>
+        public void Verify(
+            int depth = 6, int runs = 100000, TimeSpan? limit = null, CancellationToken token = default(CancellationToken))
         {
-            TaskGraphProgram.Demand(TaskGraphProgram.Verify(this, depth, runs));
+            TaskGraphProgram.Demand(TaskGraphProgram.Verify(this, depth, runs, new CallLimit(limit, token)));
         }
 
         /// <summary>Asks for the verdict on each claim, for a test of each or a report. Calls the program: see
         /// <see cref="TaskGraphProgram"/>.</summary>
         /// <param name="depth">The most splits on a path of a certificate, 0 to 6.</param>
         /// <param name="runs">How many random runs are tried for each claim, at most 1,000,000.</param>
+        /// <param name="limit">How long it may take; ten minutes, if left out.</param>
+        /// <param name="token">Ends the search.</param>
         /// <returns>The verdicts, in the order of the claims.</returns>
         /// <exception cref="TaskGraphException">The document can't be read: with the program's words.</exception>
-        public IReadOnlyList<ClaimVerdict> Verdicts(int depth = 6, int runs = 100000)
+        /// <exception cref="TimeoutException">The time was up before the answer was there.</exception>
+        /// <exception cref="OperationCanceledException">The token was requested before the answer was there.</exception>
+        public IReadOnlyList<ClaimVerdict> Verdicts(
+            int depth = 6, int runs = 100000, TimeSpan? limit = null, CancellationToken token = default(CancellationToken))
         {
-            return ClaimVerdict.AllOf(TaskGraphProgram.Verify(this, depth, runs).Output, Claims.NameOf);
+            return ClaimVerdict.AllOf(TaskGraphProgram.Verify(this, depth, runs, new CallLimit(limit, token)).Output, Claims.NameOf);
         }
 
-        /// <summary>Searches for a certificate of the claims, has it checked, and gives the document with it, to be kept beside the
-        /// code. Calls the program: see <see cref="TaskGraphProgram"/>.</summary>
+        /// <summary>Searches for a certificate of the claims, as deeply as <see cref="Verify"/>, has it checked, and gives the document with
+        /// it, to be kept beside the code. Calls the program: see <see cref="TaskGraphProgram"/>.</summary>
         /// <param name="depth">The most splits on a path, 0 to 6.</param>
+        /// <param name="limit">How long it may take; ten minutes, if left out.</param>
+        /// <param name="token">Ends the search.</param>
         /// <exception cref="TaskGraphException">There is none, or the document can't be read: with the program's words, and with a run in
         /// which a claim fails, where a short search finds one.</exception>
-        public string Certify(int depth = 2)
+        /// <exception cref="TimeoutException">The time was up before the answer was there.</exception>
+        /// <exception cref="OperationCanceledException">The token was requested before the answer was there.</exception>
+        public string Certify(int depth = 6, TimeSpan? limit = null, CancellationToken token = default(CancellationToken))
         {
-            return TaskGraphProgram.Certify(this, depth);
+            return TaskGraphProgram.Certify(this, depth, new CallLimit(limit, token));
         }
 
         /// <summary>Has the certificate of a stored document checked for this graph and its claims, which takes milliseconds where
         /// <see cref="Certify"/> may search for long. Calls the program: see <see cref="TaskGraphProgram"/>.</summary>
         /// <param name="certified">What <see cref="Certify"/> gave earlier.</param>
+        /// <param name="limit">How long it may take; ten minutes, if left out.</param>
+        /// <param name="token">Ends the call.</param>
+        /// <exception cref="ArgumentException">The document has no certificate.</exception>
         /// <exception cref="TaskGraphException">It doesn't show the claims of this graph, which may have changed since: with the program's
         /// words.</exception>
-        public void Check(string certified)
+        /// <exception cref="TimeoutException">The time was up before the answer was there.</exception>
+        /// <exception cref="OperationCanceledException">The token was requested before the answer was there.</exception>
+        public void Check(string certified, TimeSpan? limit = null, CancellationToken token = default(CancellationToken))
         {
             Complete();
-            TaskGraphProgram.Check(new GraphDocument(this).WriteWith(Certificate.Of(certified)));
+            TaskGraphProgram.Check(new GraphDocument(this).WriteWith(Certificate.Of(certified)), new CallLimit(limit, token));
         }
 
         /// <summary>Starts the tasks on the default scheduler and records the run.</summary>
@@ -274,7 +354,7 @@ namespace TaskGraph
         /// <exception cref="InvalidOperationException">The graph ran already; build it again.</exception>
         public GraphRun Start(RunOptions options = null)
         {
-            GraphRun run = NewRun(options);
+            GraphRun run = NewRun(options, isOfCode: false);
             if (Task.CurrentId == null)
             {
                 run.Begin();
@@ -286,12 +366,10 @@ namespace TaskGraph
 
         /// <summary>Begins to watch code that stays as it is: it makes its tasks by its own calls, hands each to
         /// <see cref="GraphRun.Is{T}"/>, and its bodies are wrapped by <see cref="GraphRun.Body(GraphTask, Action{WatchedBody})"/>
-        /// and <see cref="GraphRun.Next(GraphTask, Action{WatchedBody})"/>.</summary>
+        /// and <see cref="GraphRun.Next(GraphTask, Action{WatchedBody})"/>. A method that is written with await makes each of its calls by
+        /// <see cref="GraphRun.Call(GraphTask, Func{Task})"/>.</summary>
         /// <exception cref="InvalidOperationException">The graph ran already; build it again.</exception>
-        public GraphRun Watch()
-        {
-            return NewRun(null);
-        }
+        public GraphRun Watch() => NewRun(null, isOfCode: true);
 
         /// <summary>The document with what was recorded of a run.</summary>
         internal string ToJson(RunAccount run)
@@ -327,6 +405,16 @@ namespace TaskGraph
             {
                 throw OfOther("input", input.Name, "declare one of this graph by Input");
             }
+            return input;
+        }
+
+        private GraphInput Add(GraphInput input)
+        {
+            if (Inputs.Any(it => it.Name == input.Name))
+            {
+                throw new ArgumentException("two inputs are named " + input.Name + "; use the GraphInput that was made first");
+            }
+            Inputs.Add(input);
             return input;
         }
 
@@ -391,10 +479,7 @@ namespace TaskGraph
         }
 
         /// <summary>The same tasks, whatever the caller does with the array.</summary>
-        private static GraphTask[] Copied(GraphTask[] tasks)
-        {
-            return (GraphTask[])NotNull(tasks, nameof(tasks)).Clone();
-        }
+        private static GraphTask[] Copied(GraphTask[] tasks) => (GraphTask[])NotNull(tasks, nameof(tasks)).Clone();
 
         private GraphToken AddToken(string name, CancellationTokenSource source, CancellationToken token, GraphToken[] sources)
         {
@@ -421,15 +506,17 @@ namespace TaskGraph
             }
         }
 
-        private GraphRun NewRun(RunOptions options)
+        private GraphRun NewRun(RunOptions options, bool isOfCode)
         {
             if (StartedRun != null)
             {
                 throw new InvalidOperationException("the graph ran already; build it again for another run");
             }
             Complete();
+            GraphRules.CheckFailing(Tasks, options?.FailingSites ?? new string[0]);
+            options?.Prepare?.Invoke(this);
             Inputs.ForEach(it => it.Fix());
-            StartedRun = new GraphRun(this, options ?? new RunOptions());
+            StartedRun = new GraphRun(this, options ?? new RunOptions(), isOfCode);
             return StartedRun;
         }
 

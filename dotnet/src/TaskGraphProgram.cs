@@ -4,70 +4,109 @@ using System.Diagnostics;
 using System.IO;
 using System.Linq;
 using System.Text;
+using System.Threading;
 using System.Threading.Tasks;
+using TaskGraph.Internals;
 
 namespace TaskGraph
 {
     /// <summary>Calls the program taskgraph.</summary>
     /// <remarks>The environment variable TASKGRAPH names it, by one word or several: <c>taskgraph</c>, <c>wsl taskgraph</c>,
     /// <c>docker run -i --rm taskgraph</c>; or it is the path of a file, which may have spaces. Without it the program taskgraph is
-    /// looked for on the path.</remarks>
+    /// looked for on the path, and then beside the project, where the package puts the one for this system.</remarks>
     public static class TaskGraphProgram
     {
-        private const string Variable = "TASKGRAPH";
-        private const string Default = "taskgraph";
         private const int SaysNo = 1;
         private const int RefutingRuns = 10000;
+        private const int FewSplits = 2;
         private const int MostSplits = 6;
         private const int MostRuns = 1000000;
+        // in milliseconds
+        private const int Pause = 20;
 
         private static readonly Encoding Utf8 = new UTF8Encoding(false);
 
         /// <summary>Calls the program with these words, and the document on standard input.</summary>
-        /// <exception cref="InvalidOperationException">There is no such program.</exception>
+        /// <exception cref="InvalidOperationException">There is no such program, or it can't be started: with the system's
+        /// reason.</exception>
         public static ProgramAnswer Call(string words, string document)
         {
+            return Call(words, document, Timeout.InfiniteTimeSpan, CancellationToken.None);
+        }
+
+        /// <summary>Calls the program with these words, and the document on standard input, for so long at most. The program is
+        /// stopped where the time is up, or the token is requested.</summary>
+        /// <exception cref="InvalidOperationException">There is no such program, or it can't be started: with the system's
+        /// reason.</exception>
+        /// <exception cref="TimeoutException">The time was up before the answer was there.</exception>
+        /// <exception cref="OperationCanceledException">The token was requested before the answer was there.</exception>
+        public static ProgramAnswer Call(string words, string document, TimeSpan limit, CancellationToken token)
+        {
+            token.ThrowIfCancellationRequested();
+            Stopwatch since = Stopwatch.StartNew();
             using (Process process = Begin(words))
             {
                 Task<string> output = process.StandardOutput.ReadToEndAsync();
                 Task<string> error = process.StandardError.ReadToEndAsync();
-                Send(process, document);
-                process.WaitForExit();
+                // in a thread of its own: a program that reads nothing would hold one of the pool
+                Task sent = Task.Factory.StartNew(
+                    () => Send(process, document), CancellationToken.None, TaskCreationOptions.LongRunning, TaskScheduler.Default);
+                var streams = new[] { output, error, sent };
+                try
+                {
+                    if (!Task.WaitAll(streams, Left(limit, since), token) || !HasEnded(process, limit, since, token))
+                    {
+                        throw new TimeoutException(
+                            "taskgraph " + words + " hadn't answered after " + limit.TotalSeconds + " s; give the call a longer limit");
+                    }
+                }
+                catch
+                {
+                    Stop(process, streams);
+                    throw;
+                }
                 return new ProgramAnswer(process.ExitCode, output.Result, error.Result);
             }
         }
 
-        internal static string Certify(TaskGraphBuilder graph, int depth)
+        /// <summary>The document with a certificate. One with few splits is searched first: where there is none, a run in which a claim
+        /// fails is mostly found at once, and spares the deeper search.</summary>
+        internal static string Certify(TaskGraphBuilder graph, int depth, CallLimit limit)
         {
             DemandRange(nameof(depth), depth, 0, MostSplits);
             string document = graph.ToJson();
-            ProgramAnswer found = Call("analyse --whole --explain --depth " + depth, document);
+            ProgramAnswer found = Analyse(document, Math.Min(depth, FewSplits), limit);
             if (found.ExitCode == SaysNo)
             {
-                throw new TaskGraphException(found.Output + found.Error + RefutingRun(document));
+                ProgramAnswer run = limit.Call("refute --runs " + RefutingRuns, document);
+                found = run.ExitCode == SaysNo || depth <= FewSplits ? found : Analyse(document, depth, limit);
+                if (found.ExitCode == SaysNo)
+                {
+                    throw new TaskGraphException(EventLines.Beside(graph.Tasks, found.Output + found.Error + run.Error));
+                }
             }
             Demand(found);
-            Check(found.Output);
+            Check(found.Output, limit);
             return found.Output;
         }
 
         /// <summary>The verdicts on the claims, as the program writes them, with its exit status: 0 where each claim holds and none is
         /// empty.</summary>
-        internal static ProgramAnswer Verify(TaskGraphBuilder graph, int depth, int runs)
+        internal static ProgramAnswer Verify(TaskGraphBuilder graph, int depth, int runs, CallLimit limit)
         {
             DemandRange(nameof(depth), depth, 0, MostSplits);
             DemandRange(nameof(runs), runs, 0, MostRuns);
-            ProgramAnswer answer = Call("verify --explain --depth " + depth + " --runs " + runs, graph.ToJson());
+            ProgramAnswer answer = limit.Call("verify --explain --depth " + depth + " --runs " + runs, graph.ToJson());
             if (answer.ExitCode != SaysNo)
             {
                 Demand(answer);
             }
-            return answer;
+            return new ProgramAnswer(answer.ExitCode, EventLines.Beside(graph.Tasks, answer.Output), answer.Error);
         }
 
-        internal static void Check(string document)
+        internal static void Check(string document, CallLimit limit)
         {
-            Demand(Call("check --explain", document));
+            Demand(limit.Call("check --explain", document));
         }
 
         /// <exception cref="TaskGraphException">The answer isn't yes: with the program's words.</exception>
@@ -79,10 +118,9 @@ namespace TaskGraph
             }
         }
 
-        /// <summary>A run in which a claim fails, if a short search finds one.</summary>
-        private static string RefutingRun(string document)
+        private static ProgramAnswer Analyse(string document, int depth, CallLimit limit)
         {
-            return Call("refute --runs " + RefutingRuns, document).Error;
+            return limit.Call("analyse --whole --explain --depth " + depth, document);
         }
 
         private static void DemandRange(string name, int value, int least, int most)
@@ -107,11 +145,52 @@ namespace TaskGraph
             }
         }
 
+        /// <summary>The milliseconds that are left of a limit.</summary>
+        private static int Left(TimeSpan limit, Stopwatch since)
+        {
+            return limit == Timeout.InfiniteTimeSpan ? Timeout.Infinite : (int)Math.Max(0, (limit - since.Elapsed).TotalMilliseconds);
+        }
+
+        /// <summary>Whether a program that has closed its streams ends before the time is up.</summary>
+        private static bool HasEnded(Process process, TimeSpan limit, Stopwatch since, CancellationToken token)
+        {
+            while (!process.WaitForExit(Pause))
+            {
+                token.ThrowIfCancellationRequested();
+                if (Left(limit, since) == 0)
+                {
+                    return false;
+                }
+            }
+            return true;
+        }
+
+        /// <summary>Ends a program whose answer nobody waits for any more.</summary>
+        private static void Stop(Process process, Task[] streams)
+        {
+            foreach (Task stream in streams)
+            {
+                // (it may fail once the process is disposed of)
+                stream.ContinueWith(it => it.Exception, TaskContinuationOptions.OnlyOnFaulted);
+            }
+            try
+            {
+                process.Kill();
+            }
+            catch (InvalidOperationException)
+            {
+                // it has ended meanwhile
+            }
+            catch (Win32Exception)
+            {
+                // it ends just now
+            }
+        }
+
         private static Process Begin(string words)
         {
-            string named = Environment.GetEnvironmentVariable(Variable);
-            bool isNamed = !string.IsNullOrWhiteSpace(named);
-            string[] program = isNamed ? WordsOf(named) : new[] { Default };
+            ProgramPlace place = ProgramPlace.Find();
+            string[] program = place.Words;
             var start = new ProcessStartInfo(program[0], string.Join(" ", program.Skip(1).Concat(new[] { words })))
             {
                 RedirectStandardInput = true, RedirectStandardOutput = true, RedirectStandardError = true, UseShellExecute = false,
@@ -124,16 +203,9 @@ namespace TaskGraph
             }
             catch (Win32Exception thrown)
             {
-                string why = isNamed
-                    ? "the program " + program[0] + ", which the environment variable " + Variable + " names, can't be started"
-                    : "the environment variable " + Variable + " isn't set, and no program " + Default + " is on the path";
-                throw new InvalidOperationException(why + "; set " + Variable + " to the program's path", thrown);
+                string why = "the program " + program[0] + ", " + place.Found + ", can't be started: " + thrown.Message;
+                throw new InvalidOperationException(why + "; set TASKGRAPH to the program's path", thrown);
             }
-        }
-
-        private static string[] WordsOf(string named)
-        {
-            return File.Exists(named) ? new[] { named } : named.Split(new[] { ' ' }, StringSplitOptions.RemoveEmptyEntries);
         }
     }
 }

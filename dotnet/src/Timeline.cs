@@ -15,18 +15,18 @@ namespace TaskGraph.Internals
         /// <summary>The record of what wasn't recorded.</summary>
         internal const int None = -1;
 
-        internal readonly GraphTask[] Tasks;
-        internal readonly GraphToken[] Tokens;
-        internal readonly Recording Run;
+        internal GraphTask[] Tasks { get; }
+        internal GraphToken[] Tokens { get; }
+        internal Recording Run { get; }
 
         /// <summary>For each task the gap in which it was seen to end.</summary>
-        internal readonly int[] EndGap;
+        internal int[] EndGap { get; }
 
         /// <summary>For each token the gap in which it was seen requested.</summary>
-        internal readonly int[] RequestGap;
+        internal int[] RequestGap { get; }
 
         /// <summary>For each task the record of its begin.</summary>
-        internal readonly int[] BeginAt;
+        internal int[] BeginAt { get; }
 
         // for each WhenAny task that ended the place of its winner in its list
         private readonly int[] winners;
@@ -48,25 +48,13 @@ namespace TaskGraph.Internals
             ReadRecords();
         }
 
-        internal int Count
-        {
-            get { return Run.Records.Length; }
-        }
+        internal int Count => Run.Records.Length;
 
-        internal bool HasBegun(GraphTask task)
-        {
-            return BeginAt[task.Id] != None;
-        }
+        internal bool HasBegun(GraphTask task) => BeginAt[task.Id] != None;
 
-        internal GraphToken TokenOf(Record record)
-        {
-            return Tokens[record.Target];
-        }
+        internal GraphToken TokenOf(Record record) => Tokens[record.Target];
 
-        internal GraphTask TaskOf(Record record)
-        {
-            return Tasks[record.Task];
-        }
+        internal GraphTask TaskOf(Record record) => Tasks[record.Task];
 
         /// <summary>The winner of a WhenAny task; null where it hasn't ended, or waited for other tasks than declared.</summary>
         internal GraphTask WinnerOf(GraphTask whenAny)
@@ -76,10 +64,8 @@ namespace TaskGraph.Internals
         }
 
         /// <summary>The records of calls of Cancel, in order.</summary>
-        internal IEnumerable<int> CancelCalls
-        {
-            get { return Enumerable.Range(0, Count).Where(it => Run.Records[it].Kind == RecordKind.CancelCalled); }
-        }
+        internal IEnumerable<int> CancelCalls =>
+            Enumerable.Range(0, Count).Where(it => Run.Records[it].Kind == RecordKind.CancelCalled);
 
         /// <summary>The record at which a call of Cancel came back, or the last one.</summary>
         internal int ReturnOf(int call)
@@ -88,10 +74,7 @@ namespace TaskGraph.Internals
             return returnOf.TryGetValue(call, out found) ? found : Count - 1;
         }
 
-        internal int CallOf(int back)
-        {
-            return callOf[back];
-        }
+        internal int CallOf(int back) => callOf[back];
 
         /// <summary>Whether the token, or a source of it, was requested by this gap.</summary>
         internal bool IsRequested(GraphToken token, int gap)
@@ -100,10 +83,7 @@ namespace TaskGraph.Internals
         }
 
         /// <summary>Whether a continuation's options allow how its antecedent was seen to end.</summary>
-        internal bool AllowsStart(GraphTask task)
-        {
-            return GraphRules.AllowsStart(task, Run.Ends[task.Antecedent.Id]);
-        }
+        internal bool AllowsStart(GraphTask task) => GraphRules.AllowsStart(task, Run.Ends[task.Antecedent.Id]);
 
         /// <summary>Whether a body looks at how the winner of this WhenAny task ended.</summary>
         internal static bool IsWinnerLookedAt(GraphTask whenAny)
@@ -132,10 +112,7 @@ namespace TaskGraph.Internals
             }
         }
 
-        private static bool IsEmptyWhenAll(GraphTask task)
-        {
-            return task.Kind == TaskKind.All && task.Of.Length == 0;
-        }
+        private static bool IsEmptyWhenAll(GraphTask task) => task.Kind == TaskKind.All && task.Of.Length == 0;
 
         private bool NobodyStoodOn(GraphTask task, int before)
         {

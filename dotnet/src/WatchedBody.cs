@@ -1,4 +1,6 @@
 using System;
+using System.Diagnostics.CodeAnalysis;
+using System.Linq;
 using System.Threading;
 using System.Threading.Tasks;
 using TaskGraph.Internals;
@@ -11,6 +13,7 @@ namespace TaskGraph
         private readonly GraphRun run;
         private readonly GraphTask task;
         private readonly int worker;
+        private bool hasWorked;
 
         internal WatchedBody(GraphRun run, GraphTask task, Task antecedent, int worker)
         {
@@ -21,7 +24,8 @@ namespace TaskGraph
         }
 
         /// <summary>The antecedent of a continuation; null for others.</summary>
-        public Task Antecedent { get; private set; }
+        [MaybeNull]
+        public Task Antecedent { get; }
 
         /// <summary>Does a job.</summary>
         public void Work(Action job)
@@ -55,10 +59,7 @@ namespace TaskGraph
         }
 
         /// <summary>Awaits a job.</summary>
-        public Task WorkAsync(Func<Task> job)
-        {
-            return WatchAsync(null, job);
-        }
+        public Task WorkAsync(Func<Task> job) => WatchAsync(null, job);
 
         /// <summary>Awaits a job that gives a result.</summary>
         public async Task<T> WorkAsync<T>(Func<Task<T>> job)
@@ -83,6 +84,25 @@ namespace TaskGraph
             await WatchAsync(token, () => made = job(token)).ConfigureAwait(false);
             Check(token);
             return made.Result;
+        }
+
+        /// <summary>Makes a call as it is declared, behind what reads the exception before it.</summary>
+        internal Task CallAsync(Func<Task> call)
+        {
+            PutObserved();
+            return WorkAsync(call);
+        }
+
+        internal Task<T> CallAsync<T>(Func<Task<T>> call)
+        {
+            PutObserved();
+            return WorkAsync(call);
+        }
+
+        internal Task CallAsync(GraphToken token, Func<CancellationToken, Task> call)
+        {
+            PutObserved();
+            return WorkAsync(token, call);
         }
 
         /// <summary>Checks a token: CancellationToken.ThrowIfCancellationRequested.</summary>
@@ -123,6 +143,7 @@ namespace TaskGraph
         /// <summary>Reads the exception of the antecedent, or of the winner where the antecedent is declared as a WhenAny task:
         /// Task.Exception.</summary>
         /// <exception cref="InvalidOperationException">The body has no antecedent.</exception>
+        [return: MaybeNull]
         public AggregateException Observe()
         {
             if (Antecedent == null)
@@ -132,6 +153,18 @@ namespace TaskGraph
             AggregateException exception = Subject().Exception;
             Put(RecordKind.Step);
             return exception;
+        }
+
+        /// <summary>Passes a branch on an input, whose value the code has found: <c>if (it.Decide(cached, cache.Has(key)))</c>.</summary>
+        /// <param name="input">The input, as <see cref="TaskGraphBuilder.Decides"/> declares it.</param>
+        /// <param name="found">The value.</param>
+        /// <returns>The value.</returns>
+        /// <exception cref="InvalidOperationException">The input has another value already in this run.</exception>
+        public bool Decide(GraphInput input, bool found)
+        {
+            bool value = task.Graph.DemandOwn(input).Note(found);
+            Put(RecordKind.Step);
+            return value;
         }
 
         /// <summary>Passes a return, a throw or a branch.</summary>
@@ -144,6 +177,20 @@ namespace TaskGraph
         internal void End()
         {
             Put(RecordKind.Over);
+            Step job = task.Body?.List.FirstOrDefault(it => it.Kind == StepKind.Work);
+            if (job != null && !hasWorked)
+            {
+                string what = "the wrapped body of " + task.Name + " reported no job, and is declared with the job " + job.Text;
+                run.Recorder.Say(RunNoteKind.Unreported, what + "; put the job into it.Work(..)");
+            }
+        }
+
+        private void PutObserved()
+        {
+            foreach (Step _ in task.Body.List.TakeWhile(it => it.Kind == StepKind.Observe))
+            {
+                Put(RecordKind.Step);
+            }
         }
 
         private Task Subject()
@@ -186,6 +233,11 @@ namespace TaskGraph
             if (token == null || !token.IsStop(thrown))
             {
                 Put(RecordKind.Failed);
+                if (!task.Body.All.Any(it => it.Kind == StepKind.Work && it.MayFail))
+                {
+                    string advice = "declare it with mayFail, or catch the exception in the job";
+                    run.Recorder.Say(RunNoteKind.Undeclared, Told.Of("the job of " + task.Name, thrown, advice));
+                }
                 return;
             }
             Put(RecordKind.Done);
@@ -194,6 +246,7 @@ namespace TaskGraph
 
         private void Put(RecordKind kind, int target = 0)
         {
+            hasWorked |= kind == RecordKind.Done || kind == RecordKind.Failed;
             run.Recorder.Put(kind, task.Id, worker, target);
         }
     }

@@ -52,9 +52,6 @@ namespace TaskGraph.Tests
             return string.Concat(graph.AllTasks.Select(it => HasEnded(graph.StartedRun[it]) ? "1" : "0"));
         }
 
-        private static bool HasEnded(Task real)
-        {
-            return real != null && real.IsCompleted;
-        }
+        private static bool HasEnded(Task real) => real != null && real.IsCompleted;
     }
 }

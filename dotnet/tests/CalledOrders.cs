@@ -7,7 +7,7 @@ using Sample;
 namespace TaskGraph.Tests
 {
     /// <summary>Orders whose jobs are written down as they are called, and of which some fail.</summary>
-    internal sealed class CalledOrders : Orders
+    internal class CalledOrders : Orders
     {
         private readonly HashSet<string> failing;
         private readonly string stopping;

@@ -27,10 +27,7 @@ namespace TaskGraph.Tests
         /// <summary>The jobs that are to fail.</summary>
         internal HashSet<string> Failing { get; private set; }
 
-        internal TaskGraphBuilder Graph
-        {
-            get { return graph; }
-        }
+        internal TaskGraphBuilder Graph => graph;
 
         /// <summary>Builds the graph; a body that checks no foreign token is async or not by chance.</summary>
         internal static DrawnGraph Build(string text, Random chance)
@@ -48,15 +45,9 @@ namespace TaskGraph.Tests
             return ((Dictionary<string, object>)of).TryGetValue(name, out found) ? (T)found : otherwise;
         }
 
-        private static List<object> Items(object of, string name)
-        {
-            return Member(of, name, new List<object>());
-        }
+        private static List<object> Items(object of, string name) => Member(of, name, new List<object>());
 
-        private static TaskStatus Final(object word)
-        {
-            return (TaskStatus)Enum.Parse(typeof(TaskStatus), (string)word);
-        }
+        private static TaskStatus Final(object word) => (TaskStatus)Enum.Parse(typeof(TaskStatus), (string)word);
 
         private void AddTokens()
         {
@@ -67,10 +58,7 @@ namespace TaskGraph.Tests
             }
         }
 
-        private GraphToken[] Tokens(IEnumerable<object> names)
-        {
-            return names.Select(it => tokens[(string)it]).ToArray();
-        }
+        private GraphToken[] Tokens(IEnumerable<object> names) => names.Select(it => tokens[(string)it]).ToArray();
 
         private void AddTasks()
         {

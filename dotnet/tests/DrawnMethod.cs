@@ -40,6 +40,14 @@ namespace TaskGraph.Tests
         private readonly HashSet<string> failing;
         private readonly List<string> calls = new List<string>();
 
+        // what each call of the method as it is written is made through; null where it is made by itself
+        private GraphRun watching;
+        private TaskGraphBuilder watched;
+
+        // the call that the method leaves out, and whether it comes to it
+        private string leftOut;
+        private bool hasLeftOut;
+
         private DrawnMethod(int seed)
         {
             chance = new Random(seed);
@@ -58,6 +66,34 @@ namespace TaskGraph.Tests
                 to.WriteLine("drawn " + number + "\t" + written + "\t" + declared);
                 RunLine.Write(to, "drawn " + number, run, declared != "no end");
             }
+        }
+
+        /// <summary>Runs methods as they are written, with their calls watched against the declaration; and such as leave a call out.</summary>
+        internal static void WriteWatched(TextWriter to, int count, int seed)
+        {
+            for (int number = seed; number < seed + count; number++)
+            {
+                GraphRun run;
+                bool hasEnded = new DrawnMethod(number).Watched(out run);
+                RunLine.Write(to, "watched " + number, run, hasEnded);
+                var lacking = new DrawnMethod(number);
+                lacking.leftOut = lacking.jobs[number % lacking.jobs.Count];
+                hasEnded = lacking.Watched(out run);
+                if (lacking.hasLeftOut)
+                {
+                    RunLine.Write(to, "lacking " + number, run, hasEnded);
+                }
+            }
+        }
+
+        private bool Watched(out GraphRun run)
+        {
+            watched = new TaskGraphBuilder();
+            MethodBlock method = watched.Method("Drawn");
+            Declare(method, statements);
+            method.AsTask();
+            run = watching = watched.Watch();
+            return Task.WaitAny(new[] { Written(statements) }, LongestRun) == 0 && run.Wait(LongestRun);
         }
 
         private List<Statement> Draw(int depth)
@@ -123,8 +159,8 @@ namespace TaskGraph.Tests
             {
                 switch (it.Kind)
                 {
-                    case Kind.Call: await Do(it.Name); break;
-                    case Kind.Together: await Task.WhenAll(Do(it.Name + "a"), Do(it.Name + "b")); break;
+                    case Kind.Call: await Make(it.Name); break;
+                    case Kind.Together: await Task.WhenAll(Make(it.Name + "a"), Make(it.Name + "b")); break;
                     case Kind.Retry: await WrittenRetry(it); break;
                     default: await WrittenTry(it); break;
                 }
@@ -137,7 +173,7 @@ namespace TaskGraph.Tests
             {
                 try
                 {
-                    await Do(retry.Name + attempt);
+                    await Make(retry.Name + attempt);
                     break;
                 }
                 catch (Exception) when (attempt < Attempts)
@@ -154,7 +190,7 @@ namespace TaskGraph.Tests
             }
             catch (Exception) when (of.Catch != null)
             {
-                await Do(of.Catch);
+                await Make(of.Catch);
                 if (of.Rethrows)
                 {
                     throw;
@@ -164,7 +200,7 @@ namespace TaskGraph.Tests
             {
                 if (of.Finally != null)
                 {
-                    await Do(of.Finally);
+                    await Make(of.Finally);
                 }
             }
         }
@@ -203,6 +239,16 @@ namespace TaskGraph.Tests
             {
                 to.Finally(of.Finally, () => Do(of.Finally), mayFail: true);
             }
+        }
+
+        private Task Make(string job)
+        {
+            if (job == leftOut)
+            {
+                hasLeftOut = true;
+                return Task.FromResult(true);
+            }
+            return watching == null ? Do(job) : watching.Call(watched[job], () => Do(job));
         }
 
         private async Task Do(string job)

@@ -39,25 +39,13 @@ namespace TaskGraph.Tests
 
         private static readonly Action Job = Jobs.Busy;
 
-        private static Steps Working(string site)
-        {
-            return new Steps().Work(site, Job);
-        }
+        private static Steps Working(string site) => new Steps().Work(site, Job);
 
-        private static Steps MayFail(string site)
-        {
-            return new Steps().Work(site, Job, mayFail: true);
-        }
+        private static Steps MayFail(string site) => new Steps().Work(site, Job, mayFail: true);
 
-        private static Steps Nothing()
-        {
-            return new Steps().Return();
-        }
+        private static Steps Nothing() => new Steps().Return();
 
-        private static Steps Reading()
-        {
-            return new Steps().Observe();
-        }
+        private static Steps Reading() => new Steps().Observe();
 
         private static TaskGraphBuilder OneRoot()
         {
@@ -115,7 +103,7 @@ namespace TaskGraph.Tests
             else
             {
                 g.Claims.Named("one of them").Ended(rollback, Canceled).Runs(retire)
-                    .Final(rollback, RanToCompletion, Canceled).Final(retire, RanToCompletion, Canceled);
+                    .Claims.Final(rollback, RanToCompletion, Canceled).Final(retire, RanToCompletion, Canceled);
             }
             return g;
         }
@@ -142,7 +130,7 @@ namespace TaskGraph.Tests
             var announce = done.ContinueWith("Announce", Nothing(), OnlyOnRanToCompletion, stop);
             g.Claims.After(restore, cleanup).After(publish, cleanup).Final(cleanup, RanToCompletion).Observed(restore).Observed(publish)
                 .Excludes(report, announce).After(test, publish).After(web, publish).After(core, publish).After(restore, publish)
-                .Quiet(stop).After(restore, publish).After(restore, report);
+                .Quiet(stop).After(restore, publish).Claims.After(restore, report);
             return g;
         }
 
@@ -167,7 +155,7 @@ namespace TaskGraph.Tests
             {
                 g.Claims.After(g["DrainHttp"], g["CloseHttp"]).After(g["CloseHttp"], exit).Final(exit, RanToCompletion)
                     .Final(g["CloseHttp"], RanToCompletion).Quiet(stop).After(g["Http"], g["CloseHttp"])
-                    .Quiet(stop).After(g["Http"], exit);
+                    .Claims.Quiet(stop).After(g["Http"], exit);
             }
             return g;
         }
@@ -192,7 +180,7 @@ namespace TaskGraph.Tests
             var everything = g.WhenAll("Everything", a, b, parse, parts[0], parts[1], parts[2], commit, abort);
             var clean = everything.ContinueWith("Cleanup", Reading());
             g.Claims.Excludes(commit, abort).Final(first, RanToCompletion).After(parse, commit).After(a, clean).Observed(a)
-                .Observed(parts[1]).Observed(parse).Quiet(both).Final(a, RanToCompletion, Faulted).Final(clean, RanToCompletion);
+                .Observed(parts[1]).Observed(parse).Quiet(both).Final(a, RanToCompletion, Faulted).Claims.Final(clean, RanToCompletion);
             return g;
         }
 
@@ -270,7 +258,7 @@ namespace TaskGraph.Tests
             var close = ended.ContinueWith("Close", Working("close"));
             g.Claims.Excludes(confirm, refund)
                 .Named("refund only what was charged").Ended(charge, Canceled, Faulted).Never(refund)
-                .Excludes(refund, failed).Excludes(confirm, unreserved)
+                .Claims.Excludes(refund, failed).Excludes(confirm, unreserved)
                 .After(charge, refund).Observed(reserve).Observed(charge).Observed(ship).Final(close, RanToCompletion)
                 .Final(refund, RanToCompletion, Canceled).After(refund, close).Final(ended, Canceled)
                 .Named("confirmed if nothing fails").NoFailure().Runs(confirm);

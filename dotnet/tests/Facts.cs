@@ -1,4 +1,5 @@
 using System;
+using System.Collections.Generic;
 using System.IO;
 using System.Linq;
 using System.Reflection;
@@ -14,10 +15,24 @@ namespace TaskGraph.Tests
         {
             foreach (Type type in Assembly.GetExecutingAssembly().GetTypes().OrderBy(it => it.FullName))
             {
-                foreach (MethodInfo fact in type.GetMethods().Where(it => it.GetCustomAttributes(typeof(FactAttribute), false).Length > 0))
+                foreach (MethodInfo fact in type.GetMethods().Where(it => it.IsDefined(typeof(FactAttribute), false)))
                 {
-                    to.WriteLine(type.Name + "." + fact.Name + "\t" + Answer(type, fact));
+                    to.WriteLine(type.Name + "." + fact.Name + "\t" + Answer(type, fact, null));
                 }
+                foreach (MethodInfo theory in type.GetMethods().Where(it => it.IsDefined(typeof(TheoryAttribute), false)))
+                {
+                    WriteCases(to, type, theory);
+                }
+            }
+        }
+
+        /// <summary>A theory is one test for each row of its data.</summary>
+        private static void WriteCases(TextWriter to, Type type, MethodInfo theory)
+        {
+            string member = ((MemberDataAttribute)theory.GetCustomAttributes(typeof(MemberDataAttribute), false).Single()).Member;
+            foreach (object[] row in (IEnumerable<object[]>)type.GetMethod(member).Invoke(null, null))
+            {
+                to.WriteLine(type.Name + "." + theory.Name + " of " + row[0] + "\t" + Answer(type, theory, row));
             }
         }
 
@@ -27,11 +42,11 @@ namespace TaskGraph.Tests
             to.Write(Assert.Throws<TaskGraphException>(() => new Release().Graph().Verify()).Message);
         }
 
-        private static string Answer(Type type, MethodInfo fact)
+        private static string Answer(Type type, MethodInfo fact, object[] row)
         {
             try
             {
-                fact.Invoke(Activator.CreateInstance(type), null);
+                fact.Invoke(Activator.CreateInstance(type), row);
                 return "passed";
             }
             catch (TargetInvocationException thrown)

@@ -16,10 +16,7 @@ namespace TaskGraph.Tests
         }
 
         /// <summary>Gives a Dictionary, a List, a string, a bool or an int.</summary>
-        internal static object Read(string text)
-        {
-            return new JsonReader(text).Value();
-        }
+        internal static object Read(string text) => new JsonReader(text).Value();
 
         private object Value()
         {

@@ -57,6 +57,23 @@ namespace TaskGraph.Tests
             }
         }
 
+        /// <summary>Runs each method as it stands, with its calls watched against its declaration. The method with a token is left out: its
+        /// check of the token lies behind the job that is watched here.</summary>
+        internal static void WriteWatched(TextWriter to)
+        {
+            foreach (KeyValuePair<string, Pair> it in All.Where(it => it.Value.Stopping.Length == 1))
+            {
+                foreach (string[] failing in Subsets(it.Value.MayFail))
+                {
+                    var g = new TaskGraphBuilder();
+                    it.Value.Declared(new CalledOrders(failing, null, null), g, null).AsTask();
+                    var orders = new WatchedOrders(failing, g);
+                    bool hasEnded = Task.WaitAny(new[] { it.Value.Written(orders, CancellationToken.None) }, LongestRun) == 0;
+                    RunLine.Write(to, it.Key + " failing " + string.Join(" ", failing), orders.Run, hasEnded && orders.Run.Wait(LongestRun));
+                }
+            }
+        }
+
         private static Pair Of(
             Func<Orders, CancellationToken, Task> written, Func<Orders, TaskGraphBuilder, GraphToken, MethodBlock> declared,
             params string[] mayFail)

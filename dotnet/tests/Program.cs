@@ -7,7 +7,7 @@ using Sample;
 
 namespace TaskGraph.Tests
 {
-    /// <summary>What the script dotnet/test runs.</summary>
+    /// <summary>What the script dotnet/test_library.py runs.</summary>
     internal static class Program
     {
         private const int LongestRun = 20000;
@@ -24,13 +24,19 @@ namespace TaskGraph.Tests
                     case "drawn": RunDrawn(to, int.Parse(words[1]), int.Parse(words[2])); break;
                     case "deviations": Deviations.Write(to); break;
                     case "methods": Methods.Write(to); break;
+                    case "watched-methods": Methods.WriteWatched(to); break;
                     case "drawn-methods": DrawnMethod.Write(to, int.Parse(words[1]), int.Parse(words[2])); break;
+                    case "watched-drawn": DrawnMethod.WriteWatched(to, int.Parse(words[1]), int.Parse(words[2])); break;
                     case "refusals": Refusals.Write(to); break;
                     case "bench": Bench.Write(to, int.Parse(words[1])); break;
                     case "first-answer": Facts.WriteFirstAnswer(to); break;
                     case "facts": Facts.Write(to); break;
                     case "quiet": Quiet.Write(to); break;
                     case "times": Times.Write(to); break;
+                    case "members": Members.Write(to); break;
+                    case "shaken": Shaking.Write(to); break;
+                    case "led": Shaking.WriteLed(to); break;
+                    case "call": Calls.Write(to, words[1], int.Parse(words[2]), int.Parse(words[3])); break;
                     default: throw new ArgumentException("no such test: " + words[0]);
                 }
             }

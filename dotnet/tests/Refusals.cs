@@ -72,6 +72,22 @@ namespace TaskGraph.Tests
             Of("a value after the start", "before Start", g => { GraphInput dry = g.Input("dry"); g.Start(); dry.Value = true; }),
             Of("an audit before the end", "call Wait", AuditEarly),
             Of("an audit without a real task", "hand the real task to Is: B", AuditWithoutTask),
+            Of("a job that throws undeclared", "the job Fetch of Fetch threw InvalidOperationException: no route to host", WrongRuns.Undeclared),
+            Of("its stack", "at TaskGraph.Tests.WrongRuns", WrongRuns.Undeclared),
+            Of("a watched job that throws undeclared", "the job of Fetch threw InvalidOperationException: no route", WrongRuns.UndeclaredInCode),
+            Of("a wrapped body without Work", "put the job into it.Work(..)", WrongRuns.WithoutWork),
+            Of("two bodies that are exchanged", "hand the task whose body it is to Is(One, ..)", WrongRuns.Exchanged),
+            Of("a task that is handed to nobody", "and Is names no task Fetch; hand the task whose body it is", WrongRuns.HandedToNobody),
+            Of("calls in another order", "not allowed at", WrongRuns.OtherOrder),
+            Of("a call that isn't made", "make it by run.Call, or declare the method otherwise: Save", WrongRuns.WithoutCall),
+            Of("a call that is made twice", "has a real task already", WrongRuns.CallTwice),
+            Of("a condition that throws", "the condition cached of Answer threw InvalidOperationException: no cache", WrongRuns.ThrowingCondition),
+            Of("a condition of two answers", "declare an input for each condition", WrongRuns.TwoAnswers),
+            Of("a value of a condition", "declare it by Input", g => g.Decides("cached", () => true).Value = true),
+            Of("two inputs of one name", "that was made first", g => { g.Input("dry"); g.Decides("dry", () => true); }),
+            Of("a failing site that isn't there", "no job is named B; there are A", g => { g.Run("A", Nothing); g.Start(RunOptions.Failing("B")); }),
+            Of("a run toward a claim that holds", "take a verdict that is Fails", g => TowardWhatHolds(g)),
+            Of("a failing site that may not fail", "declare it so", g => { g.Run("A", Nothing); g.Start(RunOptions.Failing("A")); }),
             Of("two real tasks of one", "declare another task", g => { g.Run("A", Nothing); Is(g, "A"); }),
             Of("an async body wrapped by Body", "wrap it by BodyAsync", g => WrapTask(g, isContinuation: false)),
             Of("an async body wrapped by Next", "wrap it by NextAsync", g => WrapTask(g, isContinuation: true)),
@@ -82,6 +98,7 @@ namespace TaskGraph.Tests
             Of("a task after the start", "before that", g => { g.Run("A", Nothing); g.Start().Wait(); g.Run("B", Nothing); }),
             Of("the journal of a run that isn't recorded", "set to true", ReadUnrecorded),
             Of("a task that isn't there", "no task B; there are A", g => { g.Run("A", Nothing); Use(g["B"]); }),
+            Of("a Catch behind an Await", "write .Try(it => it.Await(..)).Catch(..)", CatchBehindAwait),
             Of("a Catch without Try", "right behind Try", g => g.Method("M").Await("A", Nothing).Catch("C", Ignore)),
             Of("a Try alone", "Catch or a Finally", g => g.Method("M").Try(it => it.Await("A", Nothing)).Await("B", Nothing)),
             Of("a Try at the end alone", "Catch or a Finally", g => { g.Method("M").Try(it => it.Await("A", Nothing)); g.ToJson(); }),
@@ -158,20 +175,11 @@ namespace TaskGraph.Tests
             g.ToJson();
         }
 
-        private static GraphTask Foreign()
-        {
-            return new TaskGraphBuilder().Run("Foreign", Nothing);
-        }
+        private static GraphTask Foreign() => new TaskGraphBuilder().Run("Foreign", Nothing);
 
-        private static GraphToken ForeignToken()
-        {
-            return new TaskGraphBuilder().Token("foreign");
-        }
+        private static GraphToken ForeignToken() => new TaskGraphBuilder().Token("foreign");
 
-        private static GraphInput ForeignInput()
-        {
-            return new TaskGraphBuilder().Input("foreign");
-        }
+        private static GraphInput ForeignInput() => new TaskGraphBuilder().Input("foreign");
 
         private static void CheckOfOther(TaskGraphBuilder g)
         {
@@ -307,6 +315,17 @@ namespace TaskGraph.Tests
             g.Method("M").Try(it => it.Await("A", Nothing)).Catch("C", Ignore).Catch("D", Ignore);
         }
 
+        private static void TowardWhatHolds(TaskGraphBuilder g)
+        {
+            g.Claims.Final(g.Run("A", Nothing), TaskStatus.RanToCompletion);
+            g.Start(RunOptions.Toward(g.Verdicts()[0]));
+        }
+
+        private static void CatchBehindAwait(TaskGraphBuilder g)
+        {
+            g.Method("M").Try(it => it.Await("A", Nothing)).Catch("C", Ignore).Await("B", Nothing).Catch("D", Ignore);
+        }
+
         private static void AddAfterTask(TaskGraphBuilder g)
         {
             MethodBlock method = g.Method("M").Await("A", Nothing);
@@ -314,10 +333,7 @@ namespace TaskGraph.Tests
             method.Await("B", Nothing);
         }
 
-        private static Steps Job(string site)
-        {
-            return new Steps().Work(site, Nothing);
-        }
+        private static Steps Job(string site) => new Steps().Work(site, Nothing);
 
         private static void Nothing()
         {

@@ -6,7 +6,7 @@ using TaskGraph.Internals;
 
 namespace TaskGraph.Tests
 {
-    /// <summary>Writes what came of a run, as one line of JSON for the script dotnet/test.</summary>
+    /// <summary>Writes what came of a run, as one line of JSON for the script dotnet/test_library.py.</summary>
     internal static class RunLine
     {
         internal static void Write(TextWriter to, string name, GraphRun run, bool hasEnded, Beginnings begins = null)

@@ -42,6 +42,21 @@ namespace TaskGraph.Tests
             Assert.Equal(Answer + 1, saving.Result);
         }
 
+        // a continuation that is never made, since what it would continue has failed, is no missing task
+        [Fact]
+        public void WhatIsNotReachedIsNotMissed()
+        {
+            var g = new TaskGraphBuilder();
+            GraphTask load = g.Run("Load", () => { }, mayFail: true);
+            GraphTask save = load.ContinueWith("Save", _ => { }, OnlyOnRanToCompletion);
+            save.ContinueWith("Send", _ => { }, OnlyOnRanToCompletion);
+            GraphRun run = g.Watch();
+            Action failing = () => throw new InvalidOperationException();
+            run.Is(load, Task.Run(run.Body(load, it => it.Work(failing))));
+            Demand(run);
+            Assert.Equal(Canceled, run.EndOf(g["Send"]).Value);
+        }
+
         // the job stops by its token: Canceled, and not Faulted
         [Fact]
         public void AJobStopsByItsToken()

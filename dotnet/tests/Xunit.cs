@@ -8,11 +8,27 @@ namespace Xunit
     {
     }
 
+    [AttributeUsage(AttributeTargets.Method)]
+    internal sealed class TheoryAttribute : Attribute
+    {
+    }
+
+    [AttributeUsage(AttributeTargets.Method)]
+    internal sealed class MemberDataAttribute : Attribute
+    {
+        internal MemberDataAttribute(string member)
+        {
+            Member = member;
+        }
+
+        internal string Member { get; }
+    }
+
     internal static class Assert
     {
-        internal static void True(bool value)
+        internal static void True(bool value, string otherwise = "true was expected")
         {
-            Demand(value, "true was expected");
+            Demand(value, otherwise);
         }
 
         internal static void Equal<T>(T expected, T found)

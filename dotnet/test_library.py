@@ -1,14 +1,11 @@
-#!/usr/bin/env python3
 """Tests the library of this folder under Mono, with the program that is named.
 
 The library, the tests and the samples are compiled as C# 7. Expected are: the documents of the folder examples; the rules,
-by which PROGRAM audits each run, and by which this script reads each journal once more; what a method does that is written
-with await; and what the page docs/DOTNET.md says. The last line is 'N passed, M failed'. Where Mono can't be had nothing is
-tested: a line says why, the last line is '0 passed, 0 failed, 1 skipped', and the exit status is 0.
+by which the program audits each run, and by which this script reads each journal once more; what a method does that is
+written with await; and what the page docs/DOTNET.md says of them. Where Mono can't be had all is skipped. What is published of
+the library, its package and its pages, test_published.py tests.
 """
-import argparse
 import collections
-import concurrent.futures
 import json
 import os
 import pathlib
@@ -17,11 +14,12 @@ import re
 import shutil
 import subprocess
 import sys
-import tempfile
-import xml.etree.ElementTree
+import time
 
-HERE = pathlib.Path(__file__).resolve().parent
-TOP = HERE.parent
+import pytest
+
+from mono import HERE, TOP, Failure, hold, library, lines
+
 # for the graphs that are drawn by chance
 sys.path.insert(0, str(TOP / "cases"))
 sys.dont_write_bytecode = True
@@ -33,9 +31,11 @@ FINALS = ("RanToCompletion", "Canceled", "Faulted")
 DRAWN_DOCUMENTS, DRAWN_RUNS, DRAWN_SEED, DRAWN_TASKS = 200, 5, 5, (4, 12)
 PLANTED_DOCUMENTS = 100
 DRAWN_METHODS = 300
+# of the claims of tests/Refuted.cs that are refuted, how many have to fail in real runs: 21 did
+REFUTED, LEAST_SHAKEN = 26, 17
+# in one real run of each that is led the way of the verdict, so many fail at least: 24 to 26 did
+LEAST_LED = 20
 SHARDS = "24"
-# in seconds; a machine that is busy may take fifty times as long as another one
-LONGEST_WAIT = 600
 # of 30 runs in which a job throws and nobody reads it: the collector of Mono may keep a task that is on no stack any more
 LEAST_RAISED, RUNS_RAISED = 15, 30
 # the two places where the libraries that were measured differ from the documentation
@@ -44,82 +44,6 @@ KNOWN = {"WinnerLookedAt", "Link"}
 UNSAYABLE = {"WinnerLookedAt", "Unexplained"}
 # notes that say that an end stands later in the journal than it was, or a begin earlier
 SHIFTS = {"Begin", "Late", "Link"}
-
-
-class Failure(Exception):
-    """What goes wrong before anything is tested."""
-
-
-def processors():
-    return len(os.sched_getaffinity(0))
-
-
-def have_mono():
-    """Why Mono can't be had, or None. Installs it where this may be done."""
-    if shutil.which("mcs") and shutil.which("mono"):
-        return None
-    if not shutil.which("apt-get") or os.geteuid() != 0:
-        return "mcs and mono are not installed, and can't be installed here"
-    for words in (["update"], ["install", "-y", "mono-mcs", "mono-runtime"]):
-        quiet = {**os.environ, "DEBIAN_FRONTEND": "noninteractive"}
-        if subprocess.run(["apt-get", *words], env=quiet, stdin=subprocess.DEVNULL, capture_output=True, check=False).returncode:
-            return f"apt-get {' '.join(words)} failed"
-    return None if shutil.which("mcs") and shutil.which("mono") else "apt-get installed no mcs and mono"
-
-
-def compiled(target, *sources):
-    """Compiles a program as C# 7."""
-    words = ["mcs", "-langversion:7", "-warn:4", "-warnaserror", "-optimize+", f"-out:{target}", *map(str, sources)]
-    made = subprocess.run(words, stdin=subprocess.DEVNULL, capture_output=True, text=True, check=False)
-    if made.returncode:
-        raise Failure(f"{target} can't be compiled:\n{made.stdout}{made.stderr}")
-    return target
-
-
-def library():
-    return sorted((HERE / "src").glob("*.cs"))
-
-
-class Suite:
-    """The compiled tests, and the program that they ask."""
-
-    def __init__(self, program, folder, times):
-        self.program, self.folder, self.times = program, pathlib.Path(folder), times
-        # the library takes several words too, and any locale
-        self.environment = {**os.environ, "LC_ALL": "C", "TASKGRAPH": f"env LC_ALL=C {program}"}
-
-    def compile(self, name, sources):
-        others = (it for part in ("tests", "samples") for it in sorted((HERE / part).glob("*.cs")))
-        return compiled(self.folder / name, *sources, *others)
-
-    def ran(self, program, *words, given=""):
-        """What a compiled program writes."""
-        ended = subprocess.run(
-            ["mono", str(program), *map(str, words)], input=given, env=self.environment, capture_output=True, text=True,
-            timeout=LONGEST_WAIT * self.times, check=False,
-        )
-        if ended.returncode:
-            raise Failure(f"{program.name} {' '.join(map(str, words))} ended with {ended.returncode}: {ended.stderr[-2000:]}")
-        return ended.stdout
-
-    def asked(self, words, document):
-        """What the program says of a document, and its exit status."""
-        ended = subprocess.run(
-            [self.program, *words], input=json.dumps(document).encode(), capture_output=True, timeout=LONGEST_WAIT, check=False
-        )
-        return ended.stdout.decode(), ended.returncode
-
-    def of_each(self, runs, *words):
-        """What the program says of the document of each run."""
-        with concurrent.futures.ThreadPoolExecutor(processors()) as pool:
-            return list(pool.map(lambda it: self.asked(words, it["document"]), runs))
-
-    def audited(self, runs):
-        return self.of_each(runs, "audit")
-
-
-def lines(text):
-    return [json.loads(line) for line in text.splitlines()]
 
 
 def kinds(run):
@@ -139,10 +63,17 @@ def is_accepted(answer):
 
 # the documents
 
+
+# how a task's note begins in a document that is declared in C#
+DECLARED_AT = re.compile(r"^[A-Za-z0-9]+\.cs:[0-9]+(: )?")
+
+
 def plain(document, *without):
-    """A document without its certificate, its run and what means nothing."""
-    kept = {name: it for name, it in document.items() if name not in ("certificate", "journal", "start", *without)}
-    kept["tasks"] = [{**it, "options": sorted(it.get("options", []))} for it in kept["tasks"]]
+    """A document without its version, its certificate, its run, the lines that declare its tasks, and what means nothing."""
+    kept = {name: it for name, it in document.items() if name not in ("version", "certificate", "journal", "start", *without)}
+    kept["tasks"] = [{**task, "options": sorted(task.get("options", []))} for task in kept["tasks"]]
+    for task in kept["tasks"]:
+        task["note"] = DECLARED_AT.sub("", task.get("note", ""))
     return kept
 
 
@@ -156,17 +87,17 @@ def example(name):
 def from_csharp():
     """The documents of docs/FROM-CSHARP.md, by their numbers."""
     text = (TOP / "docs/FROM-CSHARP.md").read_text(encoding="utf-8")
-    return [json.loads("{" + it + "}") for it in re.findall(r"^```json\n(.*?)^```$", text, re.MULTILINE | re.DOTALL)]
+    return [json.loads("{" + match + "}") for match in re.findall(r"^```json\n(.*?)^```$", text, re.MULTILINE | re.DOTALL)]
 
 
 def loosely(document):
     """A document without what docs/FROM-CSHARP.md leaves out: its jobs are named in lower case, and DenyChildAttach stands only
     where a body starts children."""
-    text = json.dumps(plain(document, "version", "claims"))
-    loose = json.loads(re.sub(r'"work": "(\w+)"', lambda it: it.group(0).lower(), text))
+    text = json.dumps(plain(document, "claims"))
+    loose = json.loads(re.sub(r'"work": "(\w+)"', lambda letter: letter.group(0).lower(), text))
     for task in loose["tasks"]:
         if not list(started(task.get("body", []))):
-            task["options"] = [it for it in task["options"] if it != "DenyChildAttach"]
+            task["options"] = [option for option in task["options"] if option != "DenyChildAttach"]
     return loose
 
 
@@ -176,7 +107,9 @@ def of_documents(suite, tests):
     shown = {f"from-csharp {number}": it for number, it in enumerate(from_csharp())}
     expected = {file.stem for file in (TOP / "examples").glob("*.json")} | {"pipeline"}
     many = json.loads(written.pop("many claims"))
-    yield "the version of many claims", None if (many["version"], len(many["claims"])) == (3, 65) else f"{many}"
+    yield "a document of many claims", None if len(many["claims"]) == 65 else f"{many}"
+    versions = {json.loads(text)["version"] for text in written.values()}
+    yield "the version of each document", None if versions == {3} else f"{versions}"
     declared = {name for name in written if not name.startswith(("from-csharp", "version3"))}
     yield "each example is declared", None if declared == expected else f"declared are {sorted(declared)}"
     for name, text in written.items():
@@ -186,6 +119,7 @@ def of_documents(suite, tests):
 
 
 # runs and their journals
+
 
 def of_run(run, answer):
     """Why a run isn't accepted as complete, or None."""
@@ -232,7 +166,11 @@ def of_times(suite, runs):
         document = run["document"]
         lines = [line.split() for line in document["journal"].splitlines()]
         expected = {line[2]: time for line, time in zip(lines, document["times"]) if line[1] == "begin"}
-        found = {it["name"]: it["ts"] for it in json.loads(text)["traceEvents"] if it["ph"] == "B"} if status == 0 else text
+        found = (
+            {event["name"]: event["ts"] for event in json.loads(text)["traceEvents"] if event["ph"] == "B"}
+            if status == 0
+            else text
+        )
         yield f"the times of a trace of {run['name']}", None if found == expected else f"{found}, not {expected}"
 
 
@@ -241,12 +179,14 @@ def of_lengths(suite, tests):
     and behind the one before it; and it ends behind its job and before the next one, or the end of the whole run."""
     (run,) = lines(suite.ran(tests, "times"))
     text, status = suite.asked(["trace"], run["document"])
-    slices = [it for it in json.loads(text)["traceEvents"] if it["ph"] in "BE"] if status == 0 else []
-    found = [(it["name"], it["ph"]) for it in slices]
+    slices = [event for event in json.loads(text)["traceEvents"] if event["ph"] in "BE"] if status == 0 else []
+    found = [(each_slice["name"], each_slice["ph"]) for each_slice in slices]
     names = [name for name, _, _ in run["bodies"]]
-    yield "the slices of a chain", None if run["ended"] and found == [(it, edge) for it in names for edge in "BE"] else f"{text}"
-    latest = [it for _, begin, _ in run["bodies"] for it in (begin, begin)][1:] + [run["whole"]]
-    earliest = [0, *(it for _, _, end in run["bodies"] for it in (end, end))][:-1]
+    yield "the slices of a chain", None if run["ended"] and found == [
+        (each_name, edge) for each_name in names for edge in "BE"
+    ] else f"{text}"
+    latest = [item for _, begin, _ in run["bodies"] for item in (begin, begin)][1:] + [run["whole"]]
+    earliest = [0, *(item for _, _, end in run["bodies"] for item in (end, end))][:-1]
     for it, least, most in zip(slices, earliest, latest):
         inside = least <= it["ts"] <= most
         yield f"the time of {it['ph']} of {it['name']}", None if inside else f"{it['ts']}, not from {least} to {most}"
@@ -289,12 +229,12 @@ def ended_by(document):
 
 def started(body):
     """The children that a body starts, in textual order."""
-    for it in body:
-        if isinstance(it, dict):
-            if "start" in it:
-                yield it["start"]
-            yield from started(it.get("then", []))
-            yield from started(it.get("else", []))
+    for statement in body:
+        if isinstance(statement, dict):
+            if "start" in statement:
+                yield statement["start"]
+            yield from started(statement.get("then", []))
+            yield from started(statement.get("else", []))
 
 
 def unseen(run):
@@ -305,8 +245,8 @@ def unseen(run):
     too_early, too_late = [], []
     for task, ended in account.begins():
         before, first = ({name for name, digit in zip(names, seen) if digit == "1"} for seen in run["begins"][task])
-        too_early += [(task, it) for it in sorted(ended - first)]
-        too_late += [(task, it) for it in sorted(before - ended)]
+        too_early += [(task, each_name) for each_name in sorted(ended - first)]
+        too_late += [(task, item) for item in sorted(before - ended)]
     return too_early, too_late
 
 
@@ -316,7 +256,7 @@ def drawn(count):
 
     chance = random.Random(DRAWN_SEED)
     graphs = [Wide(chance, *DRAWN_TASKS) for _ in range(count)]
-    return "".join(json.dumps(it.document(start=it.start())) + "\n" for it in graphs)
+    return "".join(json.dumps(graph.document(start=graph.start())) + "\n" for graph in graphs)
 
 
 def of_drawn_run(run, answer):
@@ -345,11 +285,14 @@ def of_drawn(suite, tests):
     refused = [run for run, answer in zip(runs, answered) if not is_accepted(answer)]
     accepted = [run for run in runs if run not in refused]
     pairs = sum(len(run["document"]["tasks"]) * run["journal"].count(" begin ") for run in runs)
-    print(f"{len(runs)} runs of drawn graphs, with {pairs} pairs of a begin and a task; {len(refused)} refused; notes on these:"
-          f" {told(refused)}; on those that were accepted: {told(accepted)}")
+    print(
+        f"{len(runs)} runs of drawn graphs, with {pairs} pairs of a begin and a task; {len(refused)} refused; notes on these:"
+        f" {told(refused)}; on those that were accepted: {told(accepted)}"
+    )
 
 
 # planted faults
+
 
 def planted(file, folder):
     """A copy of the library with a fault."""
@@ -366,7 +309,7 @@ def planted(file, folder):
         shutil.copy(source, folder)
     code = text.read_text(encoding="utf-8")
     for edit in edits:
-        old, new = ("\n".join(edit[it]) + "\n" for it in ("old", "new"))
+        old, new = ("\n".join(edit[word]) + "\n" for word in ("old", "new"))
         if code.count(old) != 1:
             raise Failure(f"{file.name}: its old text stands at {code.count(old)} places: {old}")
         code = code.replace(old, new)
@@ -376,8 +319,9 @@ def planted(file, folder):
 
 def failures(suite, tests, which):
     """Why tests of drawn graphs, of drawn methods, or of the lengths of bodies fail."""
-    if which == "lengths":
-        return [why for _, why in of_lengths(suite, tests) if why]
+    of_which = {"lengths": of_lengths, "refusals": of_refusals, "facts": of_facts}
+    if which in of_which:
+        return [why for _, why in of_which[which](suite, tests) if why]
     if which == "methods":
         return [why for _, why in of_methods(suite, tests, "drawn-methods", DRAWN_METHODS, 1) if why]
     runs = lines(suite.ran(tests, "drawn", DRAWN_RUNS, 1, given=drawn(PLANTED_DOCUMENTS)))
@@ -398,6 +342,7 @@ def of_planted(suite):
 
 # programs that aren't their declaration
 
+
 def of_deviations(suite, tests):
     """What the audit says of programs that aren't their declaration is what the page says. Where it says that a task ended
     otherwise, the journal alone would be accepted; and where the library refuses a run, the program refuses its document."""
@@ -417,6 +362,7 @@ def of_deviations(suite, tests):
 
 # exceptions that nobody reads
 
+
 def of_quiet(suite, tests):
     """The recorder neither observes nor swallows an exception, and attaches nothing."""
     for line in suite.ran(tests, "quiet").splitlines():
@@ -429,6 +375,7 @@ def of_quiet(suite, tests):
 
 
 # methods that are written with await
+
 
 def of_methods(suite, tests, *words):
     """Each method that is written with await and its declaration call the same jobs and end in the same way, whatever fails;
@@ -444,6 +391,38 @@ def of_methods(suite, tests, *words):
         yield f"the run of the method {run['name']}", of_run(run, answer)
 
 
+def of_watched(suite, tests):
+    """Each method that is written with await, as it stands and with its calls watched, is a run of its declaration, whatever
+    fails: a call that isn't reached isn't missed. So is each one that is drawn by chance, unless it leaves a call out."""
+    runs = lines(suite.ran(tests, "watched-methods")) + lines(suite.ran(tests, "watched-drawn", DRAWN_METHODS * suite.times, 1))
+    for run, answer in zip(runs, suite.audited(runs)):
+        # a method that leaves out a call that it comes to isn't its declaration
+        wrong = "it is accepted" if is_accepted(answer) else None
+        yield f"the watched method {run['name']}", wrong if run["name"].startswith("lacking") else of_run(run, answer)
+
+
+def of_shaken(suite, tests):
+    """Of the claims that are refuted, most fail first in some of 60 real runs."""
+    told = [line.split("\t") for line in suite.ran(tests, "shaken").splitlines()]
+    found = [line for line in told if line[2] != "none"]
+    print(f"of {len(told)} claims that are refuted {len(found)} fail first in 60 real runs")
+    yield "claims that are refuted", None if len(told) == REFUTED else f"{len(told)}, not {REFUTED}"
+    yield "claims that fail in real runs", None if len(found) >= LEAST_SHAKEN else f"only {len(found)}: {told}"
+
+
+def of_led(suite, tests):
+    """A real run that is led the way of a verdict's run fails the claim of the verdict."""
+    led = [
+        (name, int(claim), json.loads(text))
+        for name, claim, text in (it.split("\t") for it in suite.ran(tests, "led").splitlines())
+    ]
+    answers = [suite.asked(["audit"], {**run, "claims": [run["claims"][claim - 1]]})[0] for _, claim, run in led]
+    failed = [f"{name} {claim}" for (name, claim, _), answer in zip(led, answers) if "claim 1 fails" in answer]
+    print(f"of {len(led)} claims that are refuted {len(failed)} fail in a real run that is led the way of the verdict")
+    told = f"only {failed}"
+    yield "claims that fail in led runs", None if len(led) == REFUTED and len(failed) >= LEAST_LED else told
+
+
 def of_facts(suite, tests):
     """The tests that are written as a team writes them: those of the sample, and those of the verdicts."""
     for line in suite.ran(tests, "facts").splitlines():
@@ -453,74 +432,12 @@ def of_facts(suite, tests):
 
 # wrong declarations
 
+
 def of_refusals(suite, tests):
     """What is declared wrongly is refused by words that name the call to make instead."""
     for line in suite.ran(tests, "refusals").splitlines():
         which, expected, answer = line.split("\t")
         yield f"the refusal of {which}", None if expected in answer else f"{answer!r} hasn't {expected!r}"
-
-
-# the package
-
-def packed(folder):
-    """The package as it is made into a folder of its own."""
-    folder.mkdir()
-    subprocess.run([HERE / "pack", folder], stdin=subprocess.DEVNULL, capture_output=True, check=True)
-    (file,) = folder.iterdir()
-    return file
-
-
-def of_package(suite):
-    """The package is the same twice, has the version, and its sources compile alone."""
-    first, second = packed(suite.folder / "first"), packed(suite.folder / "second")
-    version = (TOP / "VERSION").read_text(encoding="utf-8").strip()
-    yield "the package twice", None if first.read_bytes() == second.read_bytes() else "its bytes differ"
-    expected = f"TaskGraph.Recorder.{version}.nupkg"
-    yield "the package's name", None if first.name == expected else f"{first.name}, not {expected}"
-    folder = suite.folder / "unpacked"
-    shutil.unpack_archive(first, folder, "zip")
-    manifest = xml.etree.ElementTree.parse(folder / "TaskGraph.Recorder.nuspec")
-    sources = [folder / "contentFiles" / it.get("include") for it in manifest.iterfind(".//{*}contentFiles/{*}files")]
-    same = manifest.findtext(".//{*}version") == version
-    yield "the package's version", None if same else "another one stands in its manifest"
-    yield "the package's sources", None if len(sources) == len(library()) else f"{len(sources)} of {len(library())} files"
-    main_file = folder / "Alone.cs"
-    shutil.copy(HERE / "tests/alone.txt", main_file)
-    journal = suite.ran(compiled(folder / "alone.exe", main_file, *sources))
-    acts = [line.split(" ", 1)[1] for line in journal.splitlines()]
-    alone = ["begin Fetch", "worked Fetch done", "leave Fetch", "release Save", "begin Save", "worked Save done", "leave Save"]
-    yield "the package alone", None if acts == alone else f"its journal is {journal!r}"
-
-
-# the pages
-
-def code(text):
-    """C# without its indentation."""
-    return [line.strip() for line in text.splitlines() if line.strip()]
-
-
-def holds(part, whole):
-    """Whether some lines stand in a file, one after another."""
-    return any(whole[place:place + len(part)] == part for place in range(len(whole) - len(part) + 1))
-
-
-def of_pages(suite, tests):
-    """The C# of the library's pages is that of the samples, which are compiled and run here; and the verdict that they show is
-    the program's."""
-    page = code((TOP / "docs/DOTNET.md").read_text(encoding="utf-8"))
-    said = code(suite.ran(tests, "first-answer"))
-    yield "docs/DOTNET.md: the verdict on the first release", None if said and holds(said, page) else f"the program says {said}"
-    samples = [code(file.read_text(encoding="utf-8")) for file in sorted((HERE / "samples").glob("*.cs"))]
-    for page in ("README.md", "docs/DOTNET.md", "dotnet/README.md"):
-        text = (TOP / page).read_text(encoding="utf-8")
-        for block in re.findall(r"^```csharp\n(.*?)^```$", text, re.MULTILINE | re.DOTALL):
-            shown = code(block)
-            found = any(holds(shown, sample) for sample in samples)
-            yield f"{page}: {shown[0]}", None if found else "stands in no sample"
-    constructs = (HERE / "samples/FromCSharp.cs").read_text(encoding="utf-8")
-    page = (TOP / "docs/FROM-CSHARP.md").read_text(encoding="utf-8")
-    for call in re.findall(r"With \[the library\]\([^)]*\): `([^`]*)`", page):
-        yield f"docs/FROM-CSHARP.md: {call}", None if call in constructs else "stands in no sample"
 
 
 def of_path(suite, tests):
@@ -536,65 +453,127 @@ def of_path(suite, tests):
     yield "a program at a path with spaces", None if expected and found == expected else f"{found!r}, not {expected!r}"
 
 
-def of_comments(suite):
-    """Each public member has its documentation."""
-    words = ["mcs", "-langversion:7", "-warn:4", "-warnaserror", "-target:library", f"-doc:{suite.folder / 'library.xml'}"]
-    made = subprocess.run(
-        [*words, f"-out:{suite.folder / 'library.dll'}", *map(str, library())],
-        stdin=subprocess.DEVNULL, capture_output=True, text=True, check=False,
-    )
-    yield "the documentation of the library", None if made.returncode == 0 else made.stdout + made.stderr
+# how long a call may take, and after how long its token is requested, in milliseconds; -1 stands for neither
+NEVER, SOON = -1, 500
+# a call that is stopped has to come back long before what it called ends, in seconds
+SLEEPS, STOPPED = 60, 20
 
 
-def compared(suite):
-    yield from of_comments(suite)
-    tests = suite.compile("tests.exe", library())
-    yield from of_documents(suite, tests)
-    yield from of_examples(suite, tests)
-    yield from of_lengths(suite, tests)
-    yield from of_drawn(suite, tests)
-    yield from of_planted(suite)
-    yield from of_deviations(suite, tests)
-    yield from of_quiet(suite, tests)
-    yield from of_methods(suite, tests, "methods")
-    yield from of_methods(suite, tests, "drawn-methods", DRAWN_METHODS * suite.times, 1)
-    yield from of_facts(suite, tests)
-    yield from of_refusals(suite, tests)
-    yield from of_path(suite, tests)
-    yield from of_package(suite)
-    yield from of_pages(suite, tests)
-
-
-def asked():
-    """What the words ask for."""
-    parser = argparse.ArgumentParser(description=__doc__, formatter_class=argparse.RawDescriptionHelpFormatter)
-    parser.add_argument("program", type=pathlib.Path, metavar="PROGRAM")
-    parser.add_argument("times", type=int, nargs="?", default=1, metavar="TIMES", help="so many times as many runs (%(default)s)")
-    return parser.parse_args()
-
-
-def main(program, times):
-    passed = failed = 0
-    with tempfile.TemporaryDirectory() as folder:
-        suite = Suite(program.resolve(), folder, times)
-        for what, why in compared(suite):
-            passed, failed = passed + (why is None), failed + (why is not None)
-            if why is not None:
-                print(f"{what}: {why}")
-    print(f"{passed} passed, {failed} failed")
-    return 0 if passed and not failed else 1
-
-
-if __name__ == "__main__":
-    GIVEN = asked()
-    MISSING = have_mono()
-    if MISSING:
-        print(f"the tests of the .NET library were skipped: {MISSING}")
-        print("0 passed, 0 failed, 1 skipped")
-        sys.exit(0)
+def of_call(suite, tests, words="check", limit=NEVER, requested=NEVER, **environment):
+    """What becomes of a call by the library, where the environment has these variables more or, if None, less."""
+    before = suite.environment
+    suite.environment = {name: it for name, it in {**before, **environment}.items() if it is not None}
+    started = time.time()
     try:
-        sys.exit(main(GIVEN.program, GIVEN.times))
-    except (Failure, OSError, subprocess.SubprocessError, ValueError) as wrong:
-        print(f"nothing was told of all tests: {wrong}")
-        print("0 passed, 1 failed")
-        sys.exit(1)
+        answer, _, _ = suite.ran(tests, "call", words, limit, requested).rpartition("\t")
+    finally:
+        suite.environment = before
+    return answer, time.time() - started
+
+
+def of_places(suite, tests):
+    """The program is the one that TASKGRAPH names, else the one on the path, else the one that the package brings."""
+    other, empty = suite.folder / "other", suite.folder / "empty"
+    brought = suite.folder / "runtimes" / "linux-x64" / "native"
+    for folder in (other, empty, brought):
+        folder.mkdir(parents=True)
+    mono = pathlib.Path(shutil.which("mono")).resolve().parent
+    on_path = f"{other}{os.pathsep}{mono}{os.pathsep}/usr/bin{os.pathsep}/bin"
+    bare = {"TASKGRAPH": None, "PATH": on_path}
+    yield "no program", said_of(
+        of_call(suite, tests, **bare),
+        "InvalidOperationException: the environment variable TASKGRAPH isn't "
+        "set, no program taskgraph is on the path, and the package has none for linux-x64",
+    )
+    (brought / "taskgraph").symlink_to(suite.program)
+    yield "the program of the package", said_of(of_call(suite, tests, **bare), "0 accepted")
+    (other / "taskgraph").write_text("#!/bin/sh\necho on the path\nexit 9\n")
+    (other / "taskgraph").chmod(0o755)
+    yield "the program on the path", said_of(of_call(suite, tests, **bare), "9 on the path")
+    named = {**bare, "TASKGRAPH": str(suite.program)}
+    yield "the program that is named", said_of(of_call(suite, tests, **named), "0 accepted")
+    plain = other / "plain"
+    plain.write_text("")
+    found = of_call(suite, tests, **{**bare, "TASKGRAPH": str(plain)})
+    yield "a file that is no program", said_of(
+        found,
+        f"InvalidOperationException: the program {plain}, which the environment variable " "TASKGRAPH names, can't be started: ",
+    )
+    shutil.rmtree(suite.folder / "runtimes")
+
+
+def said_of(found, expected):
+    """Why what became of a call doesn't begin so, or None."""
+    return None if found[0].startswith(expected) else f"{found[0]!r}, not {expected!r}"
+
+
+def of_limits(suite, tests):
+    """A call ends where its time is up, or its token is requested, and the program with it; else neither changes anything."""
+    sleeper, pids = suite.folder / "sleeper", suite.folder / "pids"
+    sleeper.write_text(f"#!/bin/sh\necho $$ >> {pids}\nexec sleep {SLEEPS}\n")
+    sleeper.chmod(0o755)
+    slow = {"TASKGRAPH": str(sleeper)}
+    ended = [
+        (
+            "a time that is up",
+            of_call(suite, tests, "check", SOON, NEVER, **slow),
+            "TimeoutException: taskgraph check hadn't answered",
+        ),
+        ("a token that is requested", of_call(suite, tests, "check", NEVER, SOON, **slow), "OperationCanceledException: "),
+        (
+            "a token that is requested first",
+            of_call(suite, tests, "check", SLEEPS * 1000, SOON, **slow),
+            "OperationCanceledException: ",
+        ),
+    ]
+    for name, found, expected in ended:
+        yield name, said_of(found, expected) or (None if found[1] < STOPPED else f"it came back after {found[1]:.0f} s")
+    left = [pid for pid in pids.read_text().split() if pathlib.Path(f"/proc/{pid}/cmdline").exists() and is_running(pid)]
+    are_all = len(pids.read_text().split()) == len(ended)
+    yield "programs that were stopped", None if are_all and not left else f"{left} still run"
+    found = of_call(suite, tests, "check", SLEEPS * 1000, SLEEPS * 1000)
+    yield "a limit that isn't reached", said_of(found, "0 accepted")
+
+
+def is_running(pid):
+    """Whether a process runs, and isn't only waited for."""
+    state = pathlib.Path(f"/proc/{pid}/stat").read_text().rpartition(")")[2].split()[0]
+    return state not in "ZX"
+
+
+# what is tested: each gives names of what it looked at, and what is wrong with it or None
+OF_SUITE = (of_planted,)
+OF_TESTS = (
+    of_documents,
+    of_examples,
+    of_lengths,
+    of_drawn,
+    of_deviations,
+    of_quiet,
+    of_watched,
+    of_shaken,
+    of_led,
+    of_facts,
+    of_refusals,
+    of_path,
+    of_places,
+    of_limits,
+)
+
+
+@pytest.mark.parametrize("looks", OF_SUITE, ids=lambda looks: looks.__name__)
+def test_library(suite, looks):
+    hold(looks(suite))
+
+
+@pytest.mark.parametrize("looks", OF_TESTS, ids=lambda looks: looks.__name__)
+def test_compiled(suite, tests, looks):
+    hold(looks(suite, tests))
+
+
+def test_methods(suite, tests):
+    hold(of_methods(suite, tests, "methods"))
+
+
+def test_drawn_methods(suite, tests):
+    hold(of_methods(suite, tests, "drawn-methods", DRAWN_METHODS * suite.times, 1))

@@ -1,0 +1,10 @@
+namespace TaskGraph.Reading
+{
+    /// <summary>How a task ends.</summary>
+    internal enum Final
+    {
+        RanToCompletion,
+        Faulted,
+        Canceled,
+    }
+}
