@@ -1,5 +1,5 @@
 #!/usr/bin/env python3
-"""Graphs with starts that are drawn by chance. As a script it draws those that crates/tpl_tests_runs plays on both machines."""
+"""Graphs with starts that are drawn by chance. As a script it draws those that tests/sessions plays on both machines."""
 import argparse
 import json
 import random
@@ -8,7 +8,7 @@ import sys
 from graphs import Drawn
 from harness import TOP
 
-PLAYED = TOP / "crates/tpl_tests_runs/data/graphs/by_chance"
+PLAYED = TOP / "tests/sessions/data/graphs/by_chance"
 # of the graphs that both machines play
 PLAYED_COUNT, PLAYED_SEED, PLAYED_TASKS = 120, 7, (4, 10)
 LINK = "Both"
@@ -26,7 +26,7 @@ class Wide(Drawn):
         return [*options, "RunContinuationsAsynchronously"] if self.chance.random() < 0.1 else options
 
     def document(self, *claims, **more):
-        others = [it for it in self.tokens if it != LINK]
+        others = [token for token in self.tokens if token != LINK]
         tokens = [*others, {"name": LINK, "linked": others}] if others else []
         return {**super().document(*claims, **more), "version": 2, "tokens": tokens}
 
@@ -36,19 +36,24 @@ class Wide(Drawn):
 
     def start(self):
         """How a run starts: with these inputs, requests and failing jobs."""
-        request = [it for it in self.tokens if self.chance.random() < 0.3]
-        sites = [it["work"] for task in self.tasks for it in statements(task.get("body", [])) if it.get("may_fail")]
-        fail = [it for it in sites if self.chance.random() < 0.5]
+        request = [token for token in self.tokens if self.chance.random() < 0.3]
+        sites = [
+            statement["work"]
+            for task in self.tasks
+            for statement in statements(task.get("body", []))
+            if statement.get("may_fail")
+        ]
+        fail = [site for site in sites if self.chance.random() < 0.5]
         return {"inputs": self.some_inputs(), "request": request, "fail": fail}
 
 
 def statements(body):
     """The statements of a body that are objects, those in branches too."""
-    for it in body:
-        if isinstance(it, dict):
-            yield it
-            yield from statements(it.get("then", []))
-            yield from statements(it.get("else", []))
+    for statement in body:
+        if isinstance(statement, dict):
+            yield statement
+            yield from statements(statement.get("then", []))
+            yield from statements(statement.get("else", []))
 
 
 def played(count: int = PLAYED_COUNT, seed: int = PLAYED_SEED) -> str:

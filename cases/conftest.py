@@ -12,7 +12,7 @@ pytest.register_assert_rewrite("pages")
 def pytest_addoption(parser):
     group = parser.getgroup("taskgraph")
     group.addoption("--program", type=pathlib.Path, help="the program; the script `taskgraph` at the top, if none is named")
-    group.addoption("--runs", type=pathlib.Path, help="the test program of crates/tpl_tests_runs; the last that was built")
+    group.addoption("--runs", type=pathlib.Path, help="the test program of tests/sessions; the last that was built")
     group.addoption("--first", type=int, default=0, metavar="N", help="the first number by which graphs are drawn by chance")
     group.addoption("--times", type=int, default=1, metavar="N", help="draw so many times as many graphs")
 
@@ -24,7 +24,7 @@ def pytest_configure(config):
 def pytest_generate_tests(metafunc):
     drawn = metafunc.definition.get_closest_marker("drawn")
     if drawn:
-        first, times = (metafunc.config.getoption(it) for it in ("--first", "--times"))
+        first, times = (metafunc.config.getoption(word) for word in ("--first", "--times"))
         metafunc.parametrize("number", range(first, first + drawn.args[0] * times))
 
 

@@ -42,9 +42,9 @@ def plain_program(folder):
     words += ["--config", 'source.crates-io.replace-with="debian"']
     words += ["--config", f'source.debian.directory="{REGISTRY}"']
     try:
-        subprocess.run([*words, "--manifest-path", str(HERE / "plain" / "Cargo.toml")], check=True)
+        subprocess.run([*words, "--manifest-path", str(HERE / "plain_reader" / "Cargo.toml")], check=True)
     finally:
-        (HERE / "plain" / "Cargo.lock").unlink(missing_ok=True)
+        (HERE / "plain_reader" / "Cargo.lock").unlink(missing_ok=True)
     return f"{folder}/release/plain"
 
 
@@ -53,7 +53,11 @@ def instructions(words, given):
     with open(given, "rb") as stdin:
         done = subprocess.run(
             ["valgrind", "--tool=callgrind", "--callgrind-out-file=/dev/null", *words],
-            stdin=stdin, stdout=subprocess.DEVNULL, stderr=subprocess.PIPE, text=True, check=False,
+            stdin=stdin,
+            stdout=subprocess.DEVNULL,
+            stderr=subprocess.PIPE,
+            text=True,
+            check=False,
         )
     return int(re.search(r"Collected : (\d+)", done.stderr).group(1))
 
@@ -76,7 +80,7 @@ def small_objects():
 
 def filled(document, place, element):
     """The text of the document with as many of the element at the place as fit."""
-    text, one = (json.dumps(it, separators=(",", ":")) for it in (document, element))
+    text, one = (json.dumps(item, separators=(",", ":")) for item in (document, element))
     at = text.index(place) + len(place)
     return text[:at] + ",".join([one] * ((LONGEST - len(text)) // (len(one) + 1))) + text[at:]
 
@@ -121,7 +125,7 @@ def as_version_3():
     for name, counted in COUNTED.items():
         document = {**sized(counted), "version": 3}
         yield name, text_of(document)
-        least = [without_rows(it) for it in document.get("certificate", [])]
+        least = [without_rows(item) for item in document.get("certificate", [])]
         yield f"{name} without rows", text_of({**document, "certificate": least})
 
 

@@ -9,6 +9,8 @@ import tempfile
 PYTHON = "/usr/bin/python3"
 # how long an installation may take, in seconds
 LIMIT = 300
+# how long it waits while another program installs something, in seconds
+WAIT = 120
 
 
 def has_modules(python: str, *modules: str) -> bool:
@@ -29,7 +31,7 @@ def install(*packages: str) -> None:
         for words in (["update"], ["install", "-y", "--no-install-recommends", *packages]):
             try:
                 subprocess.run(
-                    ["apt-get", "-q", *words],
+                    ["apt-get", "-q", "-o", f"DPkg::Lock::Timeout={WAIT}", *words],
                     stdin=subprocess.DEVNULL,
                     stdout=subprocess.DEVNULL,
                     stderr=subprocess.DEVNULL,

@@ -5,7 +5,7 @@ Who does what is left out: a worker may have any number of bodies open, so for e
 import itertools
 from typing import NamedTuple
 
-from small import CANCELED, FAULTED, RAN, Graph
+from small import CANCELED, FAULTED, FINALS, RAN, WITH_BODY, Graph
 
 # how far a task has come; the rest of TaskStatus lies between the last two
 WAITING, CREATED, READY, RUNNING, CLOSING, ENDED = "waiting", "created", "ready", "running", "closing", "ended"
@@ -53,7 +53,8 @@ class Facts(NamedTuple):
     requested: frozenset[str]
     # the sites whose jobs answered failed
     failed: frozenset[str]
-    # the tasks whose bodies threw an exception that wasn't observed
+    # the tasks whose bodies threw an exception, and those of them whose exception wasn't observed
+    threw: frozenset[int]
     unread: frozenset[int]
     is_complete: bool
 
@@ -98,7 +99,7 @@ class Runs:
             tasks.append(Task(ENDED if is_over else OPENING.get(task.kind, WAITING), task.body, final=RAN if is_over else None))
         state = State(tuple(tasks))
         for place in self.graph.having("any"):
-            ended = (it for it in self.graph.tasks[place].of if state.tasks[it].final)
+            ended = (argument for argument in self.graph.tasks[place].of if state.tasks[argument].final)
             state = state.with_task(place, winner=next(ended, None))
         return state
 
@@ -147,7 +148,7 @@ class Runs:
     def settled(self, state: State, place: int):
         """A WhenAll or WhenAny task that waits ends where all, or one, of its tasks have."""
         task = self.graph.tasks[place]
-        finals = [state.tasks[it].final for it in task.of]
+        finals = [state.tasks[argument].final for argument in task.of]
         if task.kind == "any" and any(finals):
             yield self.ended(state, place, RAN)
         if task.kind == "all" and all(finals):
@@ -157,7 +158,7 @@ class Runs:
     def begun(self, state: State, place: int) -> State:
         """The task begins, which is noted."""
         after = state.with_task(place, phase=RUNNING, has_begun=True)
-        settled = frozenset(it for it in range(len(state.tasks)) if self.is_settled(state, it))
+        settled = frozenset(number for number in range(len(state.tasks)) if self.is_settled(state, number))
         self.begins.add(Begin(place, self.facts_of(after), settled))
         return after
 
@@ -223,11 +224,11 @@ class Runs:
 
     def is_alone(self, state: State, place: int) -> bool:
         """Each attached child that was started has ended."""
-        return all(state.tasks[it].phase in (CREATED, ENDED) for it in self.graph.attached[place])
+        return all(state.tasks[each_place].phase in (CREATED, ENDED) for each_place in self.graph.attached[place])
 
     def gathered(self, state: State, atoms: tuple[int, ...], tasks) -> tuple[int, ...]:
         """These exceptions, then what these tasks carry, each once."""
-        carried = (atom for it in tasks for atom in state.tasks[it].carried)
+        carried = (atom for task in tasks for atom in state.tasks[task].carried)
         return tuple(dict.fromkeys((*atoms, *carried)))
 
     def body_ended(self, state: State, place: int) -> State:
@@ -256,12 +257,13 @@ class Runs:
         threw = [place for place, it in enumerate(state.tasks) if it.over and it.over[0] == THREW]
         failed = (state.tasks[place].over[1] for place in threw)
         return Facts(
-            tuple(it.final for it in state.tasks),
+            tuple(task.final for task in state.tasks),
             frozenset(place for place, it in enumerate(state.tasks) if it.has_begun),
             self.requested(state),
             frozenset(site for site in failed if site is not None),
+            frozenset(threw),
             frozenset(threw) - state.seen,
-            all(it.phase in (ENDED, CREATED) for it in state.tasks),
+            all(task.phase in (ENDED, CREATED) for task in state.tasks),
         )
 
 
@@ -280,6 +282,11 @@ def is_given(graph: Graph, facts: Facts, given) -> bool:
     return True
 
 
+def left(task: str, ended: list[dict]) -> set[str]:
+    """The ends of a task that what is given of ends leaves."""
+    return set(FINALS).intersection(*(end["in"] for end in ended if end["ended"] == task))
+
+
 class Truth:
     """Which claims hold in every run of a graph."""
 
@@ -294,20 +301,55 @@ class Truth:
 
     def agrees(self, runs: Runs, claim: dict) -> bool:
         """The inputs have the values that the claim takes as given."""
-        values = [it for it in claim.get("given", []) if isinstance(it, dict) and "input" in it]
-        return all(runs.inputs[it["input"]] == it["is"] for it in values)
+        values = [fact for fact in claim.get("given", []) if isinstance(fact, dict) and "input" in fact]
+        return all(runs.inputs[value["input"]] == value["is"] for value in values)
+
+    def kept(self, claim: dict) -> list[Facts]:
+        """What is so at each moment of the runs at which what the claim takes as given is true."""
+        given = claim.get("given", [])
+        each = (facts for runs in self.all if self.agrees(runs, claim) for facts in runs.facts)
+        return [facts for facts in each if all(is_given(self.graph, facts, one) for one in given)]
+
+    def why_empty(self, claim: dict) -> set[str]:
+        """Why a claim that holds says nothing: the words of `verify` for each reason that there is."""
+        kept, place = self.kept(claim), self.graph.places
+        complete = [facts for facts in kept if facts.is_complete]
+        ended = [one for one in claim.get("given", []) if isinstance(one, dict) and "ended" in one]
+        why = {
+            "NeverBegins": any(not any(place[name] in facts.begun for facts in kept) for name in self.speaks_of_begin(claim)),
+            "NamesAllEnds": {*FINALS} == {*claim.get("in", [])},
+            "NamesGivenEnds": "final" in claim and left(claim["final"], ended) <= {*claim["in"]},
+            "NeverThrows": "observed" in claim and not any(place[claim["observed"]] in facts.threw for facts in complete),
+            "NeverEndsSo": any(not any(facts.finals[place[end["ended"]]] for facts in kept) for end in ended),
+            "NeverEnds": "final" in claim and not any(facts.finals[place[claim["final"]]] for facts in kept),
+            "NeverKept": not complete and not {"runs", "observed"}.isdisjoint(claim),
+        }
+        return {word for word, is_so in why.items() if is_so}
+
+    def speaks_of_begin(self, claim: dict) -> list[str]:
+        """The tasks of whose begin alone the claim speaks."""
+        if "final" in claim:
+            has_body = self.graph.tasks[self.graph.places[claim["final"]]].kind in WITH_BODY
+            return [claim["final"]] if has_body and claim["in"] != [CANCELED] else []
+        return [*claim.get("after", [])[1:], *claim.get("excludes", []), *([claim["observed"]] if "observed" in claim else [])]
 
     def holds_in(self, runs: Runs, claim: dict) -> bool:
         given = claim.get("given", [])
-        taken = lambda facts: all(is_given(self.graph, facts, it) for it in given)
+
+        def taken(facts):
+            return all(is_given(self.graph, facts, fact) for fact in given)
+
         if "after" in claim:
-            first, second = (self.graph.places[it] for it in claim["after"])
-            return all(first in it.settled for it in runs.begins if it.task == second and taken(it.facts))
+            first, second = (self.graph.places[task] for task in claim["after"])
+            return all(first in begin.settled for begin in runs.begins if begin.task == second and taken(begin.facts))
         return all(self.is_so(facts, claim) for facts in runs.facts if taken(facts))
 
     def is_so(self, facts: Facts, claim: dict) -> bool:
         """What a claim other than `after` says is true of a run so far."""
-        place = lambda name: self.graph.places[name]
+
+        def place(name):
+            return self.graph.places[name]
+
         if "final" in claim:
             return facts.finals[place(claim["final"])] in (None, *claim["in"])
         if "observed" in claim:

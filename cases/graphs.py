@@ -84,13 +84,15 @@ class Drawn:
         chance = self.chance
         every = [task["name"] for task in self.tasks]
         bodies = [task["name"] for task in self.having("root", "then", "child")]
-        claim = chance.choice([
-            lambda: {"final": chance.choice(every), "in": chance.sample(FINALS, chance.randint(1, 2))},
-            lambda: {"after": [chance.choice(every), chance.choice(bodies)]},
-            lambda: {"observed": chance.choice(bodies)},
-            lambda: {"never": chance.choice(bodies)},
-            lambda: {"excludes": [chance.choice(bodies), chance.choice(bodies)]},
-        ])()
+        claim = chance.choice(
+            [
+                lambda: {"final": chance.choice(every), "in": chance.sample(FINALS, chance.randint(1, 2))},
+                lambda: {"after": [chance.choice(every), chance.choice(bodies)]},
+                lambda: {"observed": chance.choice(bodies)},
+                lambda: {"never": chance.choice(bodies)},
+                lambda: {"excludes": [chance.choice(bodies), chance.choice(bodies)]},
+            ]
+        )()
         given = []
         if self.inputs and chance.random() < 0.2:
             given.append({"input": chance.choice(self.inputs), "is": chance.random() < 0.5})

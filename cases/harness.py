@@ -14,10 +14,12 @@ from collections.abc import Iterable, Iterator, Mapping
 
 HERE = pathlib.Path(__file__).resolve().parent
 TOP = HERE.parent
-# where `rt` puts the proved program of a crate, and .ci/compile the unproved one
-PROVED, UNPROVED = "crates/{0}/out/{0}", "crates/{0}/out/unproved"
-PROGRAM, RUNS = "tpl_cli", "tpl_tests_runs"
+# where `rt` puts the proved program of a crate, and .ci/compile the unproved one and test programs
+BUILT = ("crates/{0}/out/{0}", "crates/{0}/out/unproved", "tests/{0}/out/unproved")
+PROGRAM, RUNS = "tpl_cli", "sessions"
 COMMANDS = ("check", "analyse", "run", "audit", "refute", "verify", "draw", "trace")
+# what a case may say
+KEYS = {"name", "words", "stdin", "stdin_base64", "document", "changes", "repeated", "stdout", "contains", "stderr", "exit"}
 # how long an answer may take, in seconds
 LIMIT = 120
 # the exit status where the words are wrong
@@ -59,7 +61,7 @@ class Program:
             timeout=limit,
             check=False,
         )
-        written, said = (it.decode(errors="surrogateescape") for it in (ended.stdout, ended.stderr))
+        written, said = (item.decode(errors="surrogateescape") for item in (ended.stdout, ended.stderr))
         return Answer(ended.returncode, written, said)
 
 
@@ -79,10 +81,10 @@ def whole_run(program: Program, document: dict, workers: int, limit: float = LIM
     return ran, answer.stdout
 
 
-def built(crate: str) -> pathlib.Path:
-    """The program of a crate that was built last, proved or not; where there is none, the place of the proved one."""
-    places = [TOP / it.format(crate) for it in (PROVED, UNPROVED)]
-    return max((it for it in places if it.exists()), key=os.path.getmtime, default=places[0])
+def built(name: str) -> pathlib.Path:
+    """The program of this name that was built last, proved or not; where there is none, the place of the proved one."""
+    places = [TOP / place.format(name) for place in BUILT]
+    return max((place for place in places if place.exists()), key=os.path.getmtime, default=places[0])
 
 
 def shared_library(folder: pathlib.Path, source: str) -> str:
@@ -117,7 +119,7 @@ class Case:
     @property
     def command(self) -> str:
         """The word of the command, or no text where the words don't begin with one."""
-        return next((it for it in self.words[:1] if not it.startswith("-")), "")
+        return next((word for word in self.words[:1] if not word.startswith("-")), "")
 
 
 def slug(name: str) -> str:
@@ -125,9 +127,33 @@ def slug(name: str) -> str:
     return re.sub(r"\W+", "-", name).strip("-")
 
 
-def case_of(file: str, table: dict) -> Case:
-    """A table of a file as a case. Standard input that is no text is written in base 64."""
-    stdin = base64.b64decode(table["stdin_base64"]) if "stdin_base64" in table else table["stdin"].encode()
+def once_replaced(text: str, old: str, new: str) -> str:
+    """The text with a part of it replaced, which has to stand in it once."""
+    if text.count(old) != 1:
+        raise ValueError(f"{old!r} stands {text.count(old)} times, and not once, in {text!r}")
+    return text.replace(old, new)
+
+
+def stdin_of(table: dict, documents: dict[str, str]) -> bytes:
+    """What a case gives on standard input: its own text, or one of the file's documents with its changes, in which marks
+    stand for what is repeated. What is no text is written in base 64."""
+    if "stdin_base64" in table:
+        return base64.b64decode(table["stdin_base64"])
+    text = documents[table["document"]] if "document" in table else table["stdin"]
+    for old, new in table.get("changes", ()):
+        text = once_replaced(text, old, new)
+    for row in reversed(table.get("repeated", ())):
+        items = (row["text"].replace("#", str(number)) for number in range(row["times"]))
+        text = once_replaced(text, row["mark"], row["between"].join(items))
+    return text.encode()
+
+
+def case_of(file: str, table: dict, documents: dict[str, str]) -> Case:
+    """A table of a file as a case."""
+    unknown = set(table) - KEYS
+    if unknown:
+        raise ValueError(f"{file}: {table['name']}: no case has {min(unknown)}")
+    stdin = stdin_of(table, documents)
     words = tuple(shlex.split(table["words"]))
     said = tuple(table["stderr"]) if "stderr" in table else None
     written, lines = table.get("stdout"), tuple(table.get("contains", ()))
@@ -136,14 +162,14 @@ def case_of(file: str, table: dict) -> Case:
 
 def files() -> list[str]:
     """The names of the files of cases, in order."""
-    return sorted(it.stem for it in HERE.glob("*.toml"))
+    return sorted(path.stem for path in HERE.glob("*.toml"))
 
 
 @functools.cache
 def cases_of(file: str) -> tuple[Case, ...]:
     """The cases of a file."""
-    tables = tomllib.loads((HERE / f"{file}.toml").read_text(encoding="utf-8"))["case"]
-    return tuple(case_of(file, it) for it in tables)
+    whole = tomllib.loads((HERE / f"{file}.toml").read_text(encoding="utf-8"))
+    return tuple(case_of(file, table, whole.get("documents", {})) for table in whole["case"])
 
 
 def all_cases() -> list[Case]:

@@ -1,29 +1,25 @@
-#!/usr/bin/env python3
-"""Gives the program documents that are dear to answer, and finds answers that cost too much or end badly.
-
-usage: cases/hostile.py [--program PROGRAM] [WORD..]    the words: cost, stack, full, memcheck; all, if none is named
+"""Documents that are dear to answer, and how answers are found that cost too much or end badly.
 
   cost      each dear document within a bound of processor time and of memory. Both are multiples of what a plain reading
             of the same bytes costs, by Python's own reader in the same minute, so that a slow machine fails none
-  stack     each command on small documents with a stack of STACK kilobytes
+  stack     each command on small documents with the stack that docs/OUTPUT.md names
   full      a file that may not grow is a failed write, as one without a reader is: by the script `taskgraph`, whatever
             program is named
   memcheck  ten calls of each command under Debian's valgrind, which finds reads and writes where none may be
 
-The last line is 'N passed, M failed', with ', K skipped' where valgrind is missing and can't be installed.
+test_hostile.py has a test for each.
 """
-import argparse
 import dataclasses
 import json
 import os
 import pathlib
+import re
 import resource
 import shutil
 import subprocess
 import sys
 import tempfile
 import time
-from concurrent.futures import ThreadPoolExecutor
 
 import debian
 from documents import COUNTED, Stages, sized, staged
@@ -172,6 +168,41 @@ def small_objects(longest=16 << 20):
     return given
 
 
+def release(layers, width):
+    """Layers of jobs, each behind the WhenAll over those before it, which a report follows where it failed, and a cleanup; and
+    claims about each layer: one of nine is false, and one needs a split on that WhenAll."""
+    ran, faulted = {"options": ["OnlyOnRanToCompletion"]}, {"options": ["OnlyOnFaulted"]}
+    tasks, claims = [], []
+    for layer in range(layers):
+        before, jobs, joins = f"All{layer - 1}", [f"J{layer}_{number}" for number in range(width)], f"All{layer}"
+        for number, job in enumerate(jobs, layer * width):
+            body = [{"work": f"s{number}", "may_fail": True}] if number < MOST_SITES else []
+            tasks.append(continuation(job, before, *body, **ran) if layer else root(job, *body))
+        tasks += [
+            joined(joins, jobs),
+            continuation(f"Rep{layer}", joins, "observe", **faulted),
+            continuation(f"Clean{layer}", joins),
+        ]
+        if layer:
+            first = jobs[0]
+            claims += [
+                {"after": [before, first]},
+                {"excludes": [f"Rep{layer - 1}", first]},
+                {"after": [f"Clean{layer - 1}", first]},
+            ]
+        claims += [{"observed": job} for job in jobs[:3]]
+        claims += [{"final": f"Clean{layer}", "in": ["RanToCompletion"]}, {"runs": f"Clean{layer}"}]
+        claims.append({"given": ["no_failure", "no_request"], "never": f"Rep{layer}"})
+    return document(tasks, *claims, version=3)
+
+
+def steps_in_line():
+    """A line of as many tasks as may be, and for each two that follow each other the claim that they come so."""
+    line = long_line()
+    names = [task["name"] for task in line["tasks"]]
+    return document(line["tasks"], *({"after": list(pair)} for pair in zip(names, names[1:])), version=3)
+
+
 def walked_bodies():
     """Long bodies under many claims of version 3: the paths of each are walked for each leaf."""
     return {**sized(COUNTED["bodies"]), "version": 3}
@@ -224,6 +255,8 @@ DEAR = (
     Hostile("all ends given to many claims", ("check",), given_ends, 1, "refused: shape claim 1\n", 5, 40),
     Hostile("all jobs and tokens given to all claims", ("check",), given_words, 1, "refused: shape claim 1\n", 1_000, 24),
     Hostile("long bodies by the rules of version 3", ("check",), walked_bodies, 0, "accepted\n", 20, 50),
+    Hostile("a release of 260 tasks", ("verify", "--jobs", "1"), lambda: release(20, 10), 1, "claim 1 holds", 25_000, 24),
+    Hostile("all steps of a long line", ("verify", "--jobs", "1"), steps_in_line, 0, "claim 1 holds", 15_000, 24),
     Hostile("small objects, one of them wrong", ("check", "--explain"), wrong_object, 3, "unreadable: ", 15, 130),
 )
 
@@ -308,8 +341,14 @@ def dearness(program, hostile):
 # ---- a small stack, a full file, memory that isn't the program's
 
 
-# what docs/OUTPUT.md says that the program needs at most, in kilobytes
-STACK = 1_024
+# the commands of a row of docs/OUTPUT.md, and the stack that it says they need at most, in kilobytes
+NEEDED = re.compile(r"^\| ((?:`[^`]+`, )*`[^`]+`) \| (\d+) KB \|$", re.MULTILINE)
+
+
+def needed_stacks():
+    """The stack that each command needs by docs/OUTPUT.md, in kilobytes."""
+    rows = NEEDED.findall((TOP / "docs/OUTPUT.md").read_text(encoding="utf-8"))
+    return {tuple(words.split()): int(size) for commands, size in rows for words in re.findall("`([^`]+)`", commands)}
 
 
 def tree_of(splits):
@@ -331,6 +370,11 @@ def nested_bodies():
     return document([root("R", *body)], inputs=["i"])
 
 
+def example(name):
+    """The document of an example, in a line."""
+    return text_of(json.loads((TOP / f"examples/{name}.json").read_text(encoding="utf-8")))
+
+
 # small documents that use much of the stack
 SHORT = {
     "no task": text_of(document([])),
@@ -340,7 +384,10 @@ SHORT = {
     "nested arrays": "[" * 127 + "]" * 127,
     "a chain that carries exceptions": text_of(throwing_chain(8, 24)),
     "its run": text_of(with_run(throwing_chain(8, 24))),
+    **{name: example(name) for name in ("saga", "etl-mirrors", "blue-green-wrong")},
 }
+# on how many lines such a document stands, where each line is answered
+LINES = 20
 
 
 def ended(program, words, text, *limits):
@@ -354,21 +401,23 @@ def ended(program, words, text, *limits):
         return called.returncode, out.read()
 
 
-# what a command is asked besides: the deepest search, and few tries
-BESIDES = {"analyse": ("--depth", "6"), "refute": ("--runs", "100"), "verify": ("--runs", "100")}
+# what a command is asked besides: few tries
+BESIDES = {"refute": ("--runs", "100"), "verify": ("--runs", "100")}
 
 
 def asked(command):
     return (command, *BESIDES.get(command, ()))
 
 
-def overflow(program, command, name):
-    """What is wrong where a command answers with a small stack; None where nothing is."""
-    wanted = ended(program, asked(command), SHORT[name])
-    got = ended(program, asked(command), SHORT[name], (resource.RLIMIT_STACK, STACK << 10))
+def overflow(program, words, size, name):
+    """What is wrong where a command answers with a stack of so many kilobytes; None where nothing is."""
+    text = SHORT[name] * LINES if "--each" in words else SHORT[name]
+    words = (*words, *BESIDES.get(words[0], ()))
+    wanted = ended(program, words, text)
+    got = ended(program, words, text, (resource.RLIMIT_STACK, size << 10))
     # (what several workers run comes in another order)
-    is_well = got[0] == wanted[0] if command == "run" else got == wanted
-    return None if is_well else f"with a stack of {STACK} KB it ends with {got[0]}, and with more of it with {wanted[0]}"
+    is_well = got[0] == wanted[0] if words[0] == "run" else got == wanted
+    return None if is_well else f"with a stack of {size} KB it ends with {got[0]}, and with more of it with {wanted[0]}"
 
 
 def unwritten(program, command):
@@ -380,8 +429,6 @@ def unwritten(program, command):
 # how many calls of each command valgrind watches, and the exit status by which it says that it found something
 WATCHED, FOUND = 10, 99
 VALGRIND = ("valgrind", "--quiet", "--leak-check=no", f"--error-exitcode={FOUND}")
-# how many calls are watched side by side
-LANES = 2
 
 
 def has_valgrind():
@@ -410,57 +457,3 @@ def strays(program, command, file):
     # (runs by threads differ)
     same = got[0] == wanted[0] if command == "run" else got == (wanted[0], wanted[1].decode())
     return None if same else f"{file.name}: under valgrind it answers {got}"
-
-
-# ---- what is tested
-
-
-def costs(program):
-    for hostile in DEAR:
-        yield f"cost of {hostile.words[0]}, {hostile.name}", dearness(program, hostile)
-
-
-def stacks(program):
-    for command in COMMANDS:
-        for name in SHORT:
-            yield f"stack of {command}, {name}", overflow(program, command, name)
-
-
-def fulls(_program):
-    for command in COMMANDS:
-        yield f"full file of {command}", unwritten(PROGRAM, command)
-
-
-def memchecks(program):
-    calls = [(command, file) for command in COMMANDS for file in small_examples()]
-    with ThreadPoolExecutor(LANES) as pool:
-        found = pool.map(lambda call: strays(program, *call), calls)
-        yield from ((f"memcheck of {command}, {file.name}", why) for (command, file), why in zip(calls, found))
-
-
-WORDS = {"cost": costs, "stack": stacks, "full": fulls, "memcheck": memchecks}
-
-
-def main():
-    parser = argparse.ArgumentParser(description=__doc__, formatter_class=argparse.RawDescriptionHelpFormatter)
-    parser.add_argument("--program", type=pathlib.Path, default=PROGRAM)
-    parser.add_argument("words", nargs="*", metavar="WORD")
-    given = parser.parse_args()
-    if not set(given.words) <= set(WORDS):
-        parser.error(f"the words are {', '.join(WORDS)}")
-    passed = failed = skipped = 0
-    for word in given.words or WORDS:
-        if word == "memcheck" and not has_valgrind():
-            print("memcheck: valgrind isn't installed and can't be")
-            skipped += 1
-            continue
-        for name, why in WORDS[word](given.program.resolve()):
-            passed, failed = passed + (why is None), failed + (why is not None)
-            if why:
-                print(f"{name}: {why}", flush=True)
-    print(f"{passed} passed, {failed} failed" + (f", {skipped} skipped" if skipped else ""))
-    return 1 if failed else 0
-
-
-if __name__ == "__main__":
-    sys.exit(main())

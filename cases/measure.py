@@ -8,7 +8,7 @@ The words:
   audit    seven courses of 770 to 68,639 events, with 0, 1, 8 and 64 claims
   refute   16 to 992 tasks
   speed    runs of roots, a chain, fans, and jobs of 1 to 100 microseconds by 1, 2 and 4 workers, beside a bare pool of
-           threads: the test program tpl_tests_runs measures these, since the jobs of the command answer at once
+           threads: the test program tests/sessions measures these, since the jobs of the command answer at once
 It prints seconds of wall and of processor, the least of several calls. Nothing fails where a time is long. test_measure.py
 does each measurement over small documents.
 """

@@ -20,7 +20,7 @@ class Pipeline(Drawn):
         self.chance, self.tasks, self.sites = chance, [], 0
         self.inputs = chance.sample(INPUTS, chance.choice((0, 0, 1, 1, 2)))
         self.tokens = self.some_tokens()
-        self.names = [it["name"] if isinstance(it, dict) else it for it in self.tokens]
+        self.names = [token["name"] if isinstance(token, dict) else token for token in self.tokens]
         # the token that most steps have, the steps in their order, the handlers with what they handle, the cleanup
         self.own = chance.choice(self.names) if self.names and chance.random() < 0.8 else None
         self.steps, self.handlers, self.cleanup = [], [], None
@@ -76,7 +76,7 @@ class Pipeline(Drawn):
         """A step that starts children, most of them attached, between other statements."""
         chance = self.chance
         children = [f"{name}{letter}" for letter in "xy"[: chance.randint(1, 2)]]
-        body = [*self.checks(), *({"start": it} for it in children), *self.checks()]
+        body = [*self.checks(), *({"start": each_child} for each_child in children), *self.checks()]
         body.insert(chance.randint(0, len(body)), self.job(name, 0.5))
         if self.inputs and chance.random() < 0.3:
             body = [{"if": chance.choice(self.inputs), "then": ["return"]}, *body]
@@ -123,7 +123,7 @@ class Pipeline(Drawn):
     def handler(self, name):
         """What follows an end of a step or of a join that isn't always so; it may stop the pipeline."""
         chance = self.chance
-        subject = chance.choice([it["name"] for it in self.having("root", "then", "all")])
+        subject = chance.choice([task["name"] for task in self.having("root", "then", "all")])
         word = chance.choice((ONLY_ON[FAULTED], ONLY_ON[FAULTED], *HANDLED))
         reads = ["observe"] if FAULTED in HANDLED[word] and chance.random() < 0.8 else []
         stops = [{"cancel": STOP}] if STOP in self.names and chance.random() < 0.25 else []
@@ -135,7 +135,7 @@ class Pipeline(Drawn):
         chance = self.chance
         if TIMEOUT in self.names and chance.random() < 0.3:
             self.task("Watch", "root", body=[self.job("Watch"), {"cancel": TIMEOUT}])
-        every = [it["name"] for it in self.having("root", "then", "all", "any")]
+        every = [task["name"] for task in self.having("root", "then", "all", "any")]
         some = dict.fromkeys([last, *(name for name, _, _ in self.handlers)])
         done = self.task("Done", "all", of=every if chance.random() < 0.6 else [*some])
         reads = ["observe"] if chance.random() < 0.8 else []
@@ -156,35 +156,41 @@ class Pipeline(Drawn):
         chance = self.chance
         if chance.random() < 0.75:
             return []
-        kinds = [{"quiet": it} for it in self.names] + [{"input": it, "is": chance.random() < 0.5} for it in self.inputs]
+        kinds = [{"quiet": name} for name in self.names] + [
+            {"input": each_input, "is": chance.random() < 0.5} for each_input in self.inputs
+        ]
         return [chance.choice([*kinds, "no_failure", "no_request"])]
 
     def of_handler(self):
         """It runs if what it handles ended so; it never does if that ended otherwise, or if nothing fails and nobody asks."""
         chance = self.chance
         name, subject, word = chance.choice(self.handlers)
-        others = [it for it in FINALS if it not in HANDLED[word]]
-        return chance.choice([
-            lambda: {"given": [{"ended": subject, "in": HANDLED[word]}], "runs": name},
-            lambda: {"given": [{"ended": subject, "in": others}], "never": name},
-            lambda: {"given": ["no_failure", "no_request"], chance.choice(("never", "runs")): name},
-            lambda: {"after": [subject, name]},
-        ])()
+        others = [final for final in FINALS if final not in HANDLED[word]]
+        return chance.choice(
+            [
+                lambda: {"given": [{"ended": subject, "in": HANDLED[word]}], "runs": name},
+                lambda: {"given": [{"ended": subject, "in": others}], "never": name},
+                lambda: {"given": ["no_failure", "no_request"], chance.choice(("never", "runs")): name},
+                lambda: {"after": [subject, name]},
+            ]
+        )()
 
     def of_cleanup(self):
         """It comes after all else, always runs, and always runs to completion."""
-        chance, every = self.chance, [it["name"] for it in self.tasks if it["name"] != self.cleanup]
-        return chance.choice([
-            lambda: {"after": [chance.choice(every), self.cleanup]},
-            lambda: {"runs": self.cleanup},
-            lambda: {"final": self.cleanup, "in": [RAN]},
-        ])()
+        chance, every = self.chance, [task["name"] for task in self.tasks if task["name"] != self.cleanup]
+        return chance.choice(
+            [
+                lambda: {"after": [chance.choice(every), self.cleanup]},
+                lambda: {"runs": self.cleanup},
+                lambda: {"final": self.cleanup, "in": [RAN]},
+            ]
+        )()
 
     def never_both(self):
         """A handler and another one, or a step."""
         chance = self.chance
         name = chance.choice(self.handlers)[0]
-        others = [it for it in (*(it for it, _, _ in self.handlers), *self.steps) if it != name]
+        others = [handler for handler in (*(it for it, _, _ in self.handlers), *self.steps) if handler != name]
         return {"excludes": [name, chance.choice(others)]} if others else {"never": name}
 
     def of_exception(self):
@@ -193,7 +199,7 @@ class Pipeline(Drawn):
     def of_end(self):
         """How a task ends, or that it runs, if nothing fails and nobody asks, or whatever happens."""
         chance = self.chance
-        every = [it["name"] for it in self.tasks]
+        every = [task["name"] for task in self.tasks]
         calm = ["no_failure", "no_request"] if chance.random() < 0.6 else []
         said = {"runs": chance.choice(self.steps)} if chance.random() < 0.4 else {}
         ends = [RAN] if calm else chance.choice(([RAN, CANCELED], [RAN, FAULTED], [RAN]))
@@ -204,7 +210,7 @@ class Pipeline(Drawn):
         chance = self.chance
         if len(self.steps) == 1:
             return self.of_exception()
-        one, other = (self.steps[it] for it in sorted(chance.sample(range(len(self.steps)), 2)))
+        one, other = (self.steps[each_one] for each_one in sorted(chance.sample(range(len(self.steps)), 2)))
         if chance.random() < 0.3:
             return {"given": [{"ended": one, "in": [CANCELED, FAULTED]}], "never": other}
         return {"after": [one, other]}

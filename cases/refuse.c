@@ -1,6 +1,6 @@
 /* For test_memory.py, which has the program load it before the C library: refuses the allocation whose number, from 1, is in
    REFUSED, and all after it where REFUSE_REST is set. With no REFUSED it says at the end how many were asked for. */
-#include "ending.h"
+#include "at_exit.h"
 
 extern void *__libc_malloc(unsigned long);
 extern void *__libc_realloc(void *, unsigned long);

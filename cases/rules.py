@@ -88,10 +88,10 @@ def split_on(tree: Tree) -> Branches | None:
     """The split of a tree of a document, or None for a leaf."""
     if isinstance(tree, str):
         return None
-    word = next((it for it in MEMBERS if it in tree), None)
+    word = next((member for member in MEMBERS if member in tree), None)
     if word is None:
         return None
-    return Branches(Split(word, tree[word], tree.get("task")), tuple(tree[it] for it in MEMBERS[word]))
+    return Branches(Split(word, tree[word], tree.get("task")), tuple(tree[member] for member in MEMBERS[word]))
 
 
 # ---- the paths of a body
@@ -100,7 +100,7 @@ def split_on(tree: Tree) -> Branches | None:
 def taken_lists(leaf, subject: set[str], statement: tuple) -> list[tuple]:
     """The lists of statements that a branch may take."""
     word, what, *lists = statement
-    may_take = (it in leaf.possible[what] for it in VALUES) if word == "if" else (what in subject, bool(subject - {what}))
+    may_take = (value in leaf.possible[what] for value in VALUES) if word == "if" else (what in subject, bool(subject - {what}))
     return [it for it, is_taken in zip(lists, may_take) if is_taken]
 
 
@@ -137,7 +137,7 @@ class Paths:
         """The paths that pass a statement."""
         word = statement[0]
         if word in ("if", "when"):
-            return set().union(*(self.through(it, live) for it in taken_lists(self.leaf, self.subject, statement)))
+            return set().union(*(self.through(each_list, live) for each_list in taken_lists(self.leaf, self.subject, statement)))
         if word in ("return", "throw"):
             self.end(RETURNED if word == "return" else THROWN, live)
             return set()
@@ -157,7 +157,7 @@ class Paths:
 
 def own_tokens(graph: Graph, claim: dict, mistakes) -> set[str]:
     """The own tokens that may be taken as quiet for a claim, by the wider rules."""
-    names = claim.get("after", [])[1:] or [claim[it] for it in ("never",) if it in claim]
+    names = claim.get("after", [])[1:] or [claim[each_word] for each_word in ("never",) if each_word in claim]
     mistaken = {
         "final": Mistake.OWN_TOKEN_FOR_FINAL,
         "observed": Mistake.OWN_TOKEN_FOR_OBSERVED,
@@ -165,10 +165,10 @@ def own_tokens(graph: Graph, claim: dict, mistakes) -> set[str]:
     }
     names += [claim[word] for word, mistake in mistaken.items() if word in claim and mistake in mistakes]
     if "excludes" in claim:
-        both = [graph.tasks[graph.places[it]].token for it in claim["excludes"]]
+        both = [graph.tasks[graph.places[exclude]].token for exclude in claim["excludes"]]
         is_one = both[0] == both[1] or Mistake.OWN_TOKENS_FOR_EXCLUDES in mistakes
-        return {it for it in both if it} if is_one else set()
-    return {it for it in (graph.tasks[graph.places[name]].token for name in names) if it}
+        return {each for each in both if each} if is_one else set()
+    return {token for token in (graph.tasks[graph.places[name]].token for name in names) if token}
 
 
 @dataclasses.dataclass(frozen=True)
@@ -200,17 +200,17 @@ class Leaf:
     def split(self, split: Split) -> list:
         """What is assumed in each branch of a split."""
         if split.word == "split_input":
-            return [self.with_input(split.what, it) for it in VALUES]
-        return [self.with_end(self.graph.places[split.what], {it}) for it in FINALS]
+            return [self.with_input(split.what, value) for value in VALUES]
+        return [self.with_end(self.graph.places[split.what], {final}) for final in FINALS]
 
     def splits(self) -> list[Split]:
         """The splits that a search tries, in this order."""
-        ends = [Split("split_end", it.name) for it in self.graph.tasks]
-        return [*(Split("split_input", it) for it in self.graph.inputs), *ends]
+        ends = [Split("split_end", task.name) for task in self.graph.tasks]
+        return [*(Split("split_input", each_input) for each_input in self.graph.inputs), *ends]
 
     def read(self, rows: list[dict]):
         """The rules for rows of a document."""
-        return Rules(self, [row_of(self.graph, it) for it in rows])
+        return Rules(self, [row_of(self.graph, row) for row in rows])
 
     def best(self):
         """The rules for the best rows that they permit."""
@@ -222,14 +222,14 @@ def assumed(graph: Graph, claim: dict, is_wide: bool, mistakes=frozenset()) -> L
     every = frozenset(FINALS)
     leaf = Leaf(
         graph,
-        {it: frozenset((True, False)) for it in graph.inputs},
+        {each_input: frozenset((True, False)) for each_input in graph.inputs},
         frozenset(),
         tuple(every for _ in graph.tasks),
         frozenset(),
         is_wide,
         frozenset(mistakes),
     )
-    taken = [*claim.get("given", []), *({"quiet": it} for it in own_tokens(graph, claim, mistakes) if is_wide)]
+    taken = [*claim.get("given", []), *({"quiet": token} for token in own_tokens(graph, claim, mistakes) if is_wide)]
     for given in taken:
         leaf = with_given(leaf, given)
     return leaf
@@ -269,7 +269,7 @@ class Rules:
             return set()
         after = self.graph.tasks[task.after]
         if after.kind == "any":
-            return set().union(*(self.rows[it].ends for it in after.of))
+            return set().union(*(self.rows[argument].ends for argument in after.of))
         return self.rows[task.after].ends - task.excluded
 
     def paths(self, place: int) -> Paths:
@@ -302,7 +302,9 @@ class Rules:
         if self.rows[place].runs:
             paths = self.paths(place)
             ends |= {final for final, how in BY_BODY.items() if how in paths.ends}
-            if any(FAULTED in self.rows[it].ends for it in self.graph.attached[place] if it in paths.starts):
+            if any(
+                FAULTED in self.rows[each_place].ends for each_place in self.graph.attached[place] if each_place in paths.starts
+            ):
                 ends.add(FAULTED)
             if task.kind != "then" and self.is_loud(place):
                 ends.add(CANCELED)
@@ -317,17 +319,17 @@ class Rules:
         return self.is_loud(place) and (not task.is_lazy or bool(before)) or bool(before & task.excluded)
 
     def all_ends(self, of) -> set[str]:
-        each, ends = [self.rows[it].ends for it in of], set()
-        if all(RAN in it for it in each):
+        each, ends = [self.rows[argument].ends for argument in of], set()
+        if all(RAN in each_ends for each_ends in each):
             ends.add(RAN)
-        if all(it - {FAULTED} for it in each) and any(CANCELED in it for it in each):
+        if all(each_ends - {FAULTED} for each_ends in each) and any(CANCELED in each_ends for each_ends in each):
             ends.add(CANCELED)
-        if all(each) and any(FAULTED in it for it in each):
+        if all(each) and any(FAULTED in each_ends for each_ends in each):
             ends.add(FAULTED)
         return ends
 
     def any_ends(self, of) -> set[str]:
-        return {RAN} if any(self.rows[it].ends for it in of) else set()
+        return {RAN} if any(self.rows[argument].ends for argument in of) else set()
 
     def may_hold_before(self, place: int) -> Set[Fact]:
         """What may be said to hold when a task begins."""
@@ -364,8 +366,8 @@ class Rules:
         if task.kind == "any" and Mistake.ARGUMENT_LEFT_OUT in self.leaf.mistakes:
             of = of[1:] or of
         if task.kind == "any" and self.leaf.is_wide:
-            of = [it for it in of if self.rows[it].ends]
-        each = [{it} | self.rows[it].past for it in of]
+            of = [argument for argument in of if self.rows[argument].ends]
+        each = [{argument} | self.rows[argument].past for argument in of]
         is_union = task.kind == "all" or Mistake.UNION_FOR_ANY in self.leaf.mistakes
         if is_union:
             return set().union(*each)
@@ -374,7 +376,7 @@ class Rules:
     def takes_over(self, place: int) -> list[int]:
         """The tasks that take over what a task carries."""
         parents = [it for it, attached in enumerate(self.graph.attached) if place in attached]
-        return [*parents, *(it for it in self.graph.having("all") if place in self.graph.tasks[it].of)]
+        return [*parents, *(each_place for each_place in self.graph.having("all") if place in self.graph.tasks[each_place].of)]
 
     def reads(self, reader: int, place: int) -> bool:
         """A continuation reads the exception of the task wherever that is faulted."""
@@ -392,10 +394,10 @@ class Rules:
         if not chain:
             return True
         *between, last = chain
-        for it in between:
-            if it not in self.takes_over(place):
+        for each_place in between:
+            if each_place not in self.takes_over(place):
                 return False
-            place = it
+            place = each_place
         return self.reads(last, place)
 
     def broken(self) -> tuple[int, str] | None:
@@ -415,12 +417,14 @@ class Rules:
 
     def tree(self) -> dict:
         """A leaf of a document with these rows."""
-        return {"rows": [row_text(self.graph, it) for it in self.rows]}
+        return {"rows": [row_text(self.graph, row) for row in self.rows]}
 
     # ---- what a closed leaf proves
 
     def proves(self, claim: dict) -> bool:
-        place = lambda name: self.graph.places[name]
+        def place(name):
+            return self.graph.places[name]
+
         if "final" in claim:
             return self.rows[place(claim["final"])].ends <= set(claim["in"])
         if "after" in claim:
@@ -431,7 +435,7 @@ class Rules:
         if "runs" in claim:
             return self.proves_runs(place(claim["runs"]))
         names = [claim["never"]] if "never" in claim else claim["excludes"]
-        return not all(self.rows[place(it)].runs for it in names)
+        return not all(self.rows[place(each_name)].runs for each_name in names)
 
     def proves_observed(self, place: int) -> bool:
         row = self.rows[place]
@@ -450,7 +454,10 @@ class Rules:
 
     def is_none_complete(self) -> bool:
         """A task that has to end can't: so no run is complete."""
-        has_to_end = lambda task: task.kind != "child" or Mistake.CHILD_WITHOUT_ENDS in self.leaf.mistakes
+
+        def has_to_end(task):
+            return task.kind != "child" or Mistake.CHILD_WITHOUT_ENDS in self.leaf.mistakes
+
         return any(has_to_end(task) and not row.ends for task, row in zip(self.graph.tasks, self.rows))
 
 
@@ -480,21 +487,24 @@ def chain_of(rules: Rules, place: int) -> list[int] | None:
     chains, known = [[place]], {place}
     while chains and len(chains[0]) <= LONGEST_CHAIN:
         *_, last = chain = chains.pop(0)
-        reader = next((it for it in rules.graph.having("then") if rules.reads(it, last)), None)
+        reader = next((each_place for each_place in rules.graph.having("then") if rules.reads(each_place, last)), None)
         if reader is not None:
             return [*chain[1:], reader]
-        chains += [[*chain, it] for it in rules.takes_over(last) if it not in known]
+        chains += [[*chain, each_place] for each_place in rules.takes_over(last) if each_place not in known]
         known.update(rules.takes_over(last))
     return None
 
 
 def row_text(graph: Graph, row: Row) -> dict:
     """A row as a document has it."""
-    names = lambda places: [graph.tasks[it].name for it in places]
+
+    def names(places):
+        return [graph.tasks[place].name for place in places]
+
     return {
         "before": names(sorted(row.before)),
         "chain": names(row.chain),
-        "ends": [it for it in FINALS if it in row.ends],
+        "ends": [final for final in FINALS if final in row.ends],
         "past": names(sorted(row.past)),
         "runs": row.runs,
     }
@@ -502,7 +512,10 @@ def row_text(graph: Graph, row: Row) -> dict:
 
 def row_of(graph: Graph, said: dict) -> Row:
     """A row of a document."""
-    places = lambda member: [graph.places[it] for it in said.get(member, [])]
+
+    def places(member):
+        return [graph.places[name] for name in said.get(member, [])]
+
     return Row(set(said["ends"]), said["runs"], set(places("before")), set(places("past")), places("chain"))
 
 
@@ -542,7 +555,7 @@ def fits(graph: Graph, tree: Tree) -> bool:
     branches = split_on(tree)
     if branches is None:
         return len(tree["rows"]) == len(graph.tasks)
-    return is_fitting(graph, branches.split) and all(fits(graph, it) for it in branches.trees)
+    return is_fitting(graph, branches.split) and all(fits(graph, each_tree) for each_tree in branches.trees)
 
 
 def is_fitting(graph: Graph, split: Split) -> bool:

@@ -82,9 +82,9 @@ class Graph:
         self.tasks = tuple(map(self.task_of, said))
         self.parents = {child: place for place in range(len(self.tasks)) for child in self.started_by(place)}
         self.attached = tuple(self.attached_to(place) for place in range(len(self.tasks)))
-        links = [it if isinstance(it, dict) else {"name": it, "linked": []} for it in document.get("tokens", [])]
-        self.sources = {it["name"]: tuple(it["linked"]) for it in links}
-        self.sites = {it[1] for task in self.tasks for it in statements_of(task.body) if it[0] == "work"}
+        links = [token if isinstance(token, dict) else {"name": token, "linked": []} for token in document.get("tokens", [])]
+        self.sources = {link["name"]: tuple(link["linked"]) for link in links}
+        self.sites = {statement[1] for task in self.tasks for statement in statements_of(task.body) if statement[0] == "work"}
 
     def task_of(self, said: dict) -> Task:
         after = self.places[said["after"]] if "after" in said else None
@@ -93,21 +93,24 @@ class Graph:
 
     def started_by(self, place: int) -> list[int]:
         """The children that the body of a task starts, in the order of its text."""
-        return [self.places[it[1]] for it in statements_of(self.tasks[place].body) if it[0] == "start"]
+        return [self.places[statement[1]] for statement in statements_of(self.tasks[place].body) if statement[0] == "start"]
 
     def attached_to(self, place: int) -> tuple[int, ...]:
         """The attached children of a task, in the same order."""
         may_attach = "DenyChildAttach" not in self.tasks[place].options
-        is_attached = lambda child: may_attach and "AttachedToParent" in self.tasks[child].options
+
+        def is_attached(child):
+            return may_attach and "AttachedToParent" in self.tasks[child].options
+
         return tuple(filter(is_attached, self.started_by(place)))
 
     def below(self, place: int) -> set[int]:
         """The attached children of a task, theirs, and so on."""
-        return {it for child in self.attached[place] for it in {child, *self.below(child)}}
+        return {item for child in self.attached[place] for item in {child, *self.below(child)}}
 
     def with_sources(self, token: str) -> set[str]:
         """The token, those that it is linked to, and so on."""
-        return {token}.union(*(self.with_sources(it) for it in self.sources[token]))
+        return {token}.union(*(self.with_sources(source) for source in self.sources[token]))
 
     def requested_with(self, tokens) -> frozenset[str]:
         """The tokens that are requested where these were requested themselves."""

@@ -13,10 +13,13 @@ know of tokens and of winners (tokens.py). Then it has to be so that
 - `analyse` finds one exactly where the rules of the version have one, and it is accepted; in version 3 its leaves have no rows,
   and with --rows those for which they stand;
 - a claim whose certificate is accepted holds in all runs, and no run in which it fails is found by `refute`;
-- each run that is found, or made by `run`, is one of them.
+- each run that is found, or made by `run`, is one of them;
+- where `verify` says that a claim is empty, the reason that it names is one in all runs. It is counted how many claims are
+  empty and said to hold, and how many of those whose given no complete run keeps.
 
-With --mistake a mistake is planted in the rules, and the program isn't asked: it is counted how often a claim that doesn't
-hold gets a certificate. The last line is what was counted; the exit status is 1 where something isn't as it has to be.
+With --empty only the last of these is compared. With --mistake a mistake is planted in the rules, and the program isn't asked:
+it is counted how often a claim that doesn't hold gets a certificate. The last line is what was counted; the exit status is 1
+where something isn't as it has to be.
 """
 import argparse
 import collections
@@ -62,9 +65,9 @@ class Small(Wide):
         """Claims of each kind about each of the tasks, each with something given or nothing."""
         every = [task["name"] for task in self.tasks]
         bodies = [task["name"] for task in self.having("root", "then", "child")]
-        said = [{"final": it, "in": self.chance.sample(FINALS, self.chance.randint(1, 2))} for it in every]
+        said = [{"final": each_task, "in": self.chance.sample(FINALS, self.chance.randint(1, 2))} for each_task in every]
         said += [{"after": [a, b]} for a in every for b in bodies if a != b]
-        said += [{word: it} for it in bodies for word in ("observed", "never", *(["runs"] if version > 2 else []))]
+        said += [{word: body} for body in bodies for word in ("observed", "never", *(["runs"] if version > 2 else []))]
         said += [{"excludes": [a, b]} for a, b in itertools.combinations(bodies, 2)]
         return [self.given(claim, version) for claim in said]
 
@@ -77,10 +80,10 @@ class Small(Wide):
     def kinds_of_given(self, version: int) -> list:
         """What may be given in this version, each input, token, task and job once."""
         chance = self.chance
-        kinds: list = [{"input": it, "is": chance.random() < 0.5} for it in self.inputs]
-        kinds += [{"quiet": it} for it in self.tokens]
+        kinds: list = [{"input": each_input, "is": chance.random() < 0.5} for each_input in self.inputs]
+        kinds += [{"quiet": token} for token in self.tokens]
         if version > 2:
-            kinds += [{"ended": it["name"], "in": chance.sample(FINALS, chance.randint(1, 2))} for it in self.tasks]
+            kinds += [{"ended": task["name"], "in": chance.sample(FINALS, chance.randint(1, 2))} for task in self.tasks]
             kinds += [{"succeeds": f"S{number}"} for number in range(1, self.sites + 1)]
             kinds += ["no_failure", "no_request"]
         return kinds
@@ -171,8 +174,8 @@ def split_by_chance(chance: random.Random, leaf: rules.Leaf, depth: int) -> dict
     if not depth:
         return leaf.best().tree()
     splits = leaf.splits()
-    split = chance.choice([it for it in splits if it.word == "split_winner"] * 2 + splits)
-    return split.tree([split_by_chance(chance, it, depth - 1) for it in leaf.split(split)])
+    split = chance.choice([each_split for each_split in splits if each_split.word == "split_winner"] * 2 + splits)
+    return split.tree([split_by_chance(chance, word, depth - 1) for word in leaf.split(split)])
 
 
 def left_out(chance: random.Random, tree: dict) -> Tree:
@@ -180,7 +183,7 @@ def left_out(chance: random.Random, tree: dict) -> Tree:
     branches = split_on(tree)
     if branches is None:
         return LEAST if chance.random() < 0.7 else tree
-    return branches.split.tree([left_out(chance, it) for it in branches.trees])
+    return branches.split.tree([left_out(chance, each_tree) for each_tree in branches.trees])
 
 
 def changed(chance: random.Random, drawn: Small, tree: Tree) -> dict:
@@ -198,7 +201,7 @@ def changed(chance: random.Random, drawn: Small, tree: Tree) -> dict:
         row["runs"] = not row["runs"]
     else:
         one = chance.choice(names[member])
-        row[member] = [it for it in row[member] if it != one] if one in row[member] else [*row[member], one]
+        row[member] = [item for item in row[member] if item != one] if one in row[member] else [*row[member], one]
     return tree
 
 
@@ -208,8 +211,8 @@ def without_tokens(tree: Tree) -> Tree:
         return tree
     branches = split_on(tree)
     if branches is None:
-        return {"rows": [{**it, "asked": [], "asks": []} for it in tree["rows"]]}
-    return branches.split.tree([without_tokens(it) for it in branches.trees])
+        return {"rows": [{**row, "asked": [], "asks": []} for row in tree["rows"]]}
+    return branches.split.tree([without_tokens(each_tree) for each_tree in branches.trees])
 
 
 def has_winner(tree: Tree) -> bool:
@@ -254,20 +257,30 @@ class Comparison:
         self.counts["graphs"] += 1
         leaves = [(document, leaf_of(truth.graph, document)) for document in each]
         asked = [Asked(it, best_tree(leaf, it["claims"][0], self.depth)) for it, leaf in leaves]
-        others = [Asked(it.document, changed(chance, drawn, it.tree)) for it in asked for _ in range(CHANGED)]
+        others = [Asked(question.document, changed(chance, drawn, question.tree)) for question in asked for _ in range(CHANGED)]
         self.compare_certificates(truth, [*asked, *others, *self.wider(chance, drawn, truth.graph, each)])
         self.compare_versions(truth.graph, asked)
         self.compare_leaves(truth.graph, asked)
-        for it in chance.sample(each, min(len(each), ASKED)) if self.program else []:
-            self.compare_search(truth, it)
-            self.compare_refutation(truth, it)
+        for one in chance.sample(each, min(len(each), ASKED)) if self.program else []:
+            self.compare_search(truth, one)
+            self.compare_refutation(truth, one)
         if self.program:
             self.compare_run(truth, drawn)
+            self.compare_emptiness(truth, each)
+
+    def compare_empty(self, number: int):
+        """Compares alone which claims about the graph of a number are said to be empty, in the newest version."""
+        drawn = KINDS[number % len(KINDS)](random.Random(number), *TASKS)
+        each = documents(drawn, VERSIONS[:1])
+        try:
+            self.compare_emptiness(Truth(each[0], self.states), each)
+        except TooManyStates:
+            self.counts["too large"] += 1
 
     def wider(self, chance: random.Random, drawn: Small, graph: Graph, each: list[dict]) -> Iterator[Asked]:
         """Certificates of version 3 with splits by chance, such in which a row or a split is another, and such by rules in
         which there is a mistake."""
-        for document in (it for it in each if it["version"] > 2):
+        for document in (question for question in each if question["version"] > 2):
             tree = split_by_chance(chance, leaf_of(graph, document), chance.randint(1, SPLITS))
             yield Asked(document, tree)
             other = changed(chance, drawn, tree)
@@ -283,7 +296,7 @@ class Comparison:
 
     def compare_certificates(self, truth: Truth, asked: list[Asked]):
         """`check` answers as the rules do, and what is accepted holds in all runs."""
-        answers = [it.verdict(truth.graph) for it in asked]
+        answers = [question.verdict(truth.graph) for question in asked]
         said = self.checked(asked) if self.program else answers
         for it, wanted, answer in zip(asked, answers, said):
             self.counts["certificates"] += 1
@@ -301,18 +314,18 @@ class Comparison:
     def checked(self, asked: list[Asked]) -> list[str]:
         """What `check` answers to each of the documents."""
         assert self.program
-        answer = self.program("check", "--each", given="".join(it.text() + "\n" for it in asked))
+        answer = self.program("check", "--each", given="".join(question.text() + "\n" for question in asked))
         lines = answer.stdout.splitlines()
         return [line.split(" ", 2)[2] for line in lines] if len(lines) == len(asked) else [answer.stdout] * len(asked)
 
     def compare_versions(self, graph: Graph, asked: list[Asked]):
         """What is accepted by rules that know neither of tokens nor of winners is accepted in version 3, with the same
         certificate."""
-        narrow = [it for it in asked if not it.is_wide and it.verdict(graph) == "accepted"]
-        older = [Asked({**it.document, "version": 3}, it.tree) for it in narrow]
-        for it in asked:
-            tree = search(rules.assumed(graph, it.claim, True), it.claim, self.depth) if it.is_wide else None
-            older += [Asked(it.document, tree)] if tree else []
+        narrow = [question for question in asked if not question.is_wide and question.verdict(graph) == "accepted"]
+        older = [Asked({**question.document, "version": 3}, question.tree) for question in narrow]
+        for question in asked:
+            tree = search(rules.assumed(graph, question.claim, True), question.claim, self.depth) if question.is_wide else None
+            older += [Asked(question.document, tree)] if tree else []
         said = self.checked(older) if self.program else ["accepted"] * len(older)
         for it, answer in zip(older, said):
             self.counts["older"] += 1
@@ -321,9 +334,9 @@ class Comparison:
 
     def compare_leaves(self, graph: Graph, asked: list[Asked]):
         """Of the best certificate the same is said with rows and without."""
-        wide = [it for it in asked if it.is_wide]
-        each = [Asked(it.document, without_rows(it.tree)) for it in wide]
-        said = self.checked(each) if self.program else [it.verdict(graph) for it in each]
+        wide = [question for question in asked if question.is_wide]
+        each = [Asked(question.document, without_rows(question.tree)) for question in wide]
+        said = self.checked(each) if self.program else [question.verdict(graph) for question in each]
         for it, answer in zip(wide, said):
             self.counts["without rows"] += 1
             if answer != it.verdict(graph):
@@ -380,11 +393,29 @@ class Comparison:
         text = json.dumps(drawn.document(start=start))
         report = self.program("run", "--workers", "3", given=text).stdout
         ends = re.findall(r"(?m)^task \w+ (\w+)", report)
-        finals = tuple(it if it in FINALS else None for it in ends)
-        unread = frozenset(truth.graph.places[it] for it in re.findall(r"(?m)^unobserved (\w+):", report))
+        finals = tuple(end if end in FINALS else None for end in ends)
+        unread = frozenset(truth.graph.places[match] for match in re.findall(r"(?m)^unobserved (\w+):", report))
         each = (facts for runs in truth.all if runs.inputs == start["inputs"] for facts in runs.facts)
-        if not any(it.is_complete and (it.finals, it.unread) == (finals, unread) for it in each):
+        if not any(question.is_complete and (question.finals, question.unread) == (finals, unread) for question in each):
             self.tell("no run ends as that of `run`:", report, "of", text)
+
+    def compare_emptiness(self, truth: Truth, each: list[dict]):
+        """`verify` says that a claim is empty only for a reason that there is."""
+        assert self.program
+        claims = [document["claims"][0] for document in each if document["version"] == VERSIONS[0]]
+        self.counts["claims of the newest version"] += len(claims)
+        hold = [claim for claim in claims if truth.holds(claim)]
+        text = json.dumps({**each[0], "version": VERSIONS[0], "claims": hold})
+        said = json.loads(self.program("verify", "--as", "json", "--runs", FEW, given=text).stdout)["claims"]
+        for claim, answer in zip(hold, said, strict=True):
+            why, verdict = truth.why_empty(claim), answer["verdict"]
+            self.counts["empty"] += bool(why)
+            self.counts["empty and said to hold"] += verdict == "holds" and bool(why)
+            if not any(facts.is_complete for facts in truth.kept(claim)):
+                self.counts["given is never kept"] += 1
+                self.counts["given is never kept and said to hold"] += verdict == "holds"
+            if verdict == "empty" and answer["empty"]["why"] not in why:
+                self.tell("said to be empty", answer["empty"], "and not", why, "of", json.dumps({**each[0], "claims": [claim]}))
 
 
 def mistaken(number: int, mistake: Mistake, depth: int = DEPTH, states: int = STATES) -> dict | None:
@@ -419,17 +450,19 @@ def main() -> int:
     parser.add_argument("--depth", type=int, default=DEPTH, help="splits on a path of what is searched for (%(default)s)")
     parser.add_argument("--states", type=int, default=STATES, help="pass over graphs with more states (%(default)s)")
     parser.add_argument("--alone", action="store_true", help="compare the rules with all runs, and don't ask the program")
-    parser.add_argument("--mistake", choices=[it.name for it in MISTAKES], help="plant this mistake in the rules")
+    parser.add_argument("--empty", action="store_true", help="compare only which claims are said to be empty")
+    parser.add_argument("--mistake", choices=[mistake.name for mistake in MISTAKES], help="plant this mistake in the rules")
     given = parser.parse_args()
     numbers = range(given.seed, given.seed + given.graphs)
     if given.mistake:
-        (planted,) = (it for it in MISTAKES if it.name == given.mistake)
-        found = [it for it in numbers if mistaken(it, planted, given.depth, given.states)]
+        (planted,) = (mistake for mistake in MISTAKES if mistake.name == given.mistake)
+        found = [each_number for each_number in numbers if mistaken(each_number, planted, given.depth, given.states)]
         print(f"of {given.graphs} graphs {len(found)} show the mistake" + (f", first {found[0]}" if found else ""))
         return 0 if found else 1
     comparison = Comparison(None if given.alone else Program(given.program), given.depth, given.states)
+    compare = comparison.compare_empty if given.empty else comparison.compare
     for number in numbers:
-        comparison.compare(number)
+        compare(number)
     print(*comparison.wrong, sep="\n")
     print(", ".join(f"{count} {what}" for what, count in sorted(comparison.counts.items())))
     return 1 if comparison.wrong else 0

@@ -4,7 +4,7 @@ Each graph is run by 1 to 16 workers, where inputs, requests and the jobs that f
 run is complete. Its journal begins with the requests, in their order, but for a link that is requested by them, and just
 the jobs that are to fail have failed. It is a run, in which each task ends as the report says, and just those exceptions
 are observed by nobody that the report names. The journal with which `run --whole` writes a document is a run of it too.
-Where other ends were seen, `audit` names the first task that has one, as it stands by stood.py. Of a journal with another
+Where other ends were seen, `audit` names the first task that has one, as it stands by task_statuses.py. Of a journal with another
 character somewhere, `audit` names the first line that is no event, as is read here by the rules of
 docs/FORMAT.md; where each line is one, the line that was changed or a later one isn't allowed, or it is a run.
 """
@@ -19,7 +19,7 @@ import pytest
 from chance import LINK, Wide
 from graphs import FINALS
 from harness import Answer, Program, whole_run
-from stood import statuses
+from task_statuses import statuses
 
 # of the graphs that are run
 COUNT, TASKS, WORKERS = 500, (4, 30), 16
@@ -70,8 +70,8 @@ class Report:
 
     def subject(self, drawn: Wide, task: dict) -> str | None:
         """How the task ended that a continuation's body sees, or None: its antecedent, or the winner of a WhenAny task."""
-        after = [it for it in drawn.tasks if it["name"] == task.get("after")]
-        names = [min(it["of"], key=self.ended) if it["kind"] == "any" else it["name"] for it in after]
+        after = [each_task for each_task in drawn.tasks if each_task["name"] == task.get("after")]
+        names = [min(each_task["of"], key=self.ended) if each_task["kind"] == "any" else each_task["name"] for each_task in after]
         return self.ends[names[0]] if names else None
 
     def claims(self, drawn: Wide) -> list[dict]:
@@ -88,14 +88,14 @@ def wanted(request: list[str]) -> list[str]:
 
 def jobs(body: list, inputs: dict, end: str | None):
     """The jobs of a body with these inputs, where its subject ended so, up to its end."""
-    for it in body:
-        if not isinstance(it, dict):
+    for statement in body:
+        if not isinstance(statement, dict):
             continue
-        if "work" in it:
-            yield it["work"]
-        elif "if" in it or "when" in it:
-            is_so = inputs[it["if"]] if "if" in it else it["when"] == end
-            yield from jobs(it["then"] if is_so else it.get("else", []), inputs, end)
+        if "work" in statement:
+            yield statement["work"]
+        elif "if" in statement or "when" in statement:
+            is_so = inputs[statement["if"]] if "if" in statement else statement["when"] == end
+            yield from jobs(statement["then"] if is_so else statement.get("else", []), inputs, end)
 
 
 class Run(NamedTuple):
@@ -197,7 +197,7 @@ def first_fault(journal: str, tasks: set[str], tokens: set[str]) -> int | None:
 def changed(chance: random.Random, journal: str) -> tuple[str, int]:
     """The journal with another character at one place, and the number of the line there."""
     at = chance.randrange(len(journal))
-    other = chance.choice([it for it in CHARACTERS if it != journal[at]])
+    other = chance.choice([character for character in CHARACTERS if character != journal[at]])
     return journal[:at] + other + journal[at + 1 :], journal.count("\n", 0, at) + 1
 
 

@@ -34,12 +34,14 @@ def steps_of(text: str):
         key = STEP.fullmatch(line)
         if key:
             further_in = " " * (len(key[1]) + 1)
-            yield textwrap.dedent("".join(itertools.takewhile(lambda it: it.startswith(further_in), lines[number:])))
+            yield textwrap.dedent(
+                "".join(itertools.takewhile(lambda each_line: each_line.startswith(further_in), lines[number:]))
+            )
 
 
 def files() -> dict[str, list[str]]:
     """The steps of each file of the page that a shell runs."""
-    found = [it.text for it in pages.blocks(PAGE) if it.kind == "yaml"]
+    found = [block.text for block in pages.blocks(PAGE) if block.kind == "yaml"]
     return {text.split("\n")[0]: list(steps_of(text)) for text in found}
 
 
@@ -66,13 +68,17 @@ class Runner:
             words, cwd=self.folder, env=environment, capture_output=True, text=True, timeout=LIMIT, check=False
         )
         with self.paths.open("a", encoding="utf-8") as paths:
-            paths.writelines(f"{it}\n" for it in PREPENDED.findall(ended.stdout))
+            paths.writelines(f"{match}\n" for match in PREPENDED.findall(ended.stdout))
         return Answer(ended.returncode, ended.stdout, ended.stderr)
 
     def reports(self) -> dict[str, tuple[int, int]]:
         """How many tests each report has, and how many failed."""
-        suites = {it.stem: xml.etree.ElementTree.parse(it).getroot()[0] for it in (self.folder / "reports").glob("*.xml")}
+        suites = {path.stem: xml.etree.ElementTree.parse(path).getroot()[0] for path in (self.folder / "reports").glob("*.xml")}
         return {name: (int(it.get("tests", "")), int(it.get("failures", ""))) for name, it in suites.items()}
+
+    def pages(self) -> dict[str, str]:
+        """The first line of each page for a browser."""
+        return {path.stem: path.read_text(encoding="utf-8").split("\n")[0] for path in (self.folder / "reports").glob("*.html")}
 
 
 @pytest.mark.parametrize("steps", files().values(), ids=files())
@@ -91,20 +97,21 @@ def test_steps(bare_program, tmp_path: Path, steps: list[str], documents: dict[s
     assert runner.run(unpack).exit == YES
     answer = runner.run(verify)
     assert answer.exit == status, answer
-    assert all(f"graphs/{it}.json" in answer.stdout for it in documents)
+    assert all(f"graphs/{document}.json" in answer.stdout for document in documents)
     assert ("claim 1 fails" in answer.stdout) == (FAILS in documents.values())
     assert runner.reports() == reports
+    assert runner.pages() == {name: "<!doctype html>" for name in reports}
 
 
 def test_each(bare_program, tmp_path: Path):
     """The documents of a folder on lines."""
     runner = Runner(bare_program, tmp_path, {"one": HOLDS, "three": FAILS, "two": NO_DOCUMENT})
-    (command,) = [it.text for it in pages.blocks(PAGE) if it.kind == "sh"]
+    (command,) = [block.text for block in pages.blocks(PAGE) if block.kind == "sh"]
     for unpack in files().values():
         assert runner.run(unpack[0]).exit == YES
     answer = runner.run(command)
     assert answer.exit == NO
-    assert [it.split()[:2] for it in answer.stdout.splitlines() if "claims" in it or "unreadable" in it] == [
+    assert [line.split()[:2] for line in answer.stdout.splitlines() if "claims" in line or "unreadable" in line] == [
         ["1", "0"],
         ["2", "1"],
         ["3", "3"],

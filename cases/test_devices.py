@@ -1,5 +1,5 @@
-"""Each command reads and writes one byte a call, and each call goes wrong in turn. narrow.c is what the program loads for
-that.
+"""Each command reads and writes one byte a call, and each call goes wrong in turn. one_byte_devices.c is what the program
+loads for that.
 
 Where no call goes wrong, the answer is that of the case. A read that fails or is interrupted is the last call: nothing is
 written, and the exit status is 5. A document that ends before its last byte is none. A write that fails or takes nothing
@@ -101,9 +101,9 @@ def answer_to_spaces(program: Program, command: str, count: int | None) -> tuple
         return ran.stdout.read().decode(), ran.wait()
 
 
-@pytest.mark.parametrize("case", [case_named(file, it) for file, names in CHOSEN.items() for it in names], ids=str)
+@pytest.mark.parametrize("case", [case_named(file, name) for file, names in CHOSEN.items() for name in names], ids=str)
 def test_each_call_that_goes_wrong(bare_program, library, case: Case):
-    device = Device(bare_program, library("narrow.c"), case)
+    device = Device(bare_program, library("one_byte_devices.c"), case)
     device.check_whole()
     for number in range(len(case.stdin) + 1):
         device.check_read(number)
@@ -112,7 +112,7 @@ def test_each_call_that_goes_wrong(bare_program, library, case: Case):
 
 
 def test_writes_of_a_long_answer(bare_program, library):
-    device = Device(bare_program, library("narrow.c"), LONG)
+    device = Device(bare_program, library("one_byte_devices.c"), LONG)
     assert device.size > KEPT
     device.check_whole()
     for number in (0, KEPT - 1, KEPT, device.size - 1):
@@ -141,7 +141,7 @@ FULL = "No space left on device (os error 28)"
         ("refute </", f"taskgraph: standard input is a folder; {NO_INPUT}\n"),
         ("draw >&-", "taskgraph: standard output is closed; the answer goes there\n"),
         ("--help >&-", "taskgraph: standard output is closed; the answer goes there\n"),
-        ("trace >/dev/full", f"taskgraph: the answer can't be written to standard output: {FULL}\n"),
+        ("draw >/dev/full", f"taskgraph: the answer can't be written to standard output: {FULL}\n"),
     ],
 )
 def test_a_device_that_fails_is_named(bare_program, words: str, said: str):

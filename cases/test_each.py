@@ -8,7 +8,9 @@ is answered as with ample memory or by `out of memory`. The memory is that of a 
 import errno
 import json
 import random
+import resource
 import subprocess
+import time
 
 import pytest
 
@@ -34,6 +36,7 @@ CHECKED = {
     b'\xff\xfe{"version":1,"tasks":[]}': (UNREADABLE, "unreadable: not JSON"),
     b"[]": (UNREADABLE, "unreadable: shape top"),
     b'{"version":1,"tasks":[]}': (YES, "accepted"),
+    b'\xef\xbb\xbf{"version":1,"tasks":[]}': (YES, "accepted"),
     b'{"version":1,"tasks":[]}\r': (YES, "accepted"),
     (ROOT % ('"return"', f',"claims":{ENDS},"certificate":{ROWS}')).encode(): (YES, "accepted"),
     (ROOT % ('"return"', f',"claims":{ENDS}')).encode(): (NO, "refused: shape claim 1"),
@@ -56,7 +59,7 @@ AUDITED = {
 VERIFIED = {
     b"": (UNREADABLE, "unreadable: not JSON"),
     b"[]": (UNREADABLE, "unreadable: shape top"),
-    b'{"version":1,"tasks":[]}': (YES, "claims 0, holds 0, fails 0, empty 0, unknown 0"),
+    b'{"version":1,"tasks":[]}': (NO, "claims 0, holds 0, fails 0, empty 0, unknown 0"),
     (ROOT % ('"return"', f',"claims":{ENDS}')).encode(): (
         YES,
         "claim 1 holds: A ends RanToCompletion\nclaims 1, holds 1, fails 0, empty 0, unknown 0",
@@ -110,9 +113,9 @@ def test_no_line(program, command: str):
 @pytest.mark.parametrize("command", ("check", "audit"))
 def test_cases(program, command: str):
     """The cases of the command, each on a line."""
-    cases = [it for it in all_cases() if it.words == (command,) and b"\r" not in it.stdin and it.stdout is not None]
-    answer = each(program, command, "--jobs", "2", given=b"".join(on_a_line(it) for it in cases))
-    assert answer == wanted((it.exit, it.stdout) for it in cases)
+    cases = [case for case in all_cases() if case.words == (command,) and b"\r" not in case.stdin and case.stdout is not None]
+    answer = each(program, command, "--jobs", "2", given=b"".join(on_a_line(case) for case in cases))
+    assert answer == wanted((case.exit, case.stdout) for case in cases)
 
 
 def on_a_line(case: Case) -> bytes:
@@ -120,15 +123,15 @@ def on_a_line(case: Case) -> bytes:
     return case.stdin.replace(b"\n", b" ") + b"\n"
 
 
-@pytest.mark.parametrize("style", ("text", "json", "junit"))
+@pytest.mark.parametrize("style", ("text", "json", "junit", "html"))
 def test_verdicts(program, style: str):
     """The answer to each document is what `verify` says to it alone."""
     words = ("verify", "--runs", RUNS, "--as", style)
-    documents = ["", '{"version":1,"tasks":[]}', *(it.values[0] for it in worked_out())]
-    alone = [program(*words, given=it) for it in documents]
-    assert {it.exit for it in alone} == {YES, NO, UNREADABLE}
+    documents = ["", '{"version":1,"tasks":[]}', *(case.values[0] for case in worked_out())]
+    alone = [program(*words, given=document) for document in documents]
+    assert {each_answer.exit for each_answer in alone} == {YES, NO, UNREADABLE}
     answer = program(*words, "--each", "--jobs", "2", given="\n".join(documents).encode())
-    assert answer == wanted((it.exit, it.stdout) for it in alone)
+    assert answer == wanted((each_answer.exit, each_answer.stdout) for each_answer in alone)
 
 
 def test_a_line_that_is_too_long(program):
@@ -191,17 +194,61 @@ class Devices:
 
     def before(self, count: int) -> str:
         """What is written for the lines that end within this many bytes."""
-        return wanted(CHECKED[it] for it in self.LINES[: self.given[:count].count(b"\n")]).stdout
+        return wanted(CHECKED[line] for line in self.LINES[: self.given[:count].count(b"\n")]).stdout
 
 
 def test_each_read_and_write_that_goes_wrong(bare_program, library):
-    devices = Devices(bare_program, library("narrow.c"))
-    text = wanted(CHECKED[it] for it in devices.LINES).stdout
+    devices = Devices(bare_program, library("one_byte_devices.c"))
+    text = wanted(CHECKED[line] for line in devices.LINES).stdout
     assert devices.answer() == (text, NO)
     for number in range(len(devices.given) + 1):
         assert devices.answer(READ=number, ERROR=errno.EIO) == (devices.before(number), DEVICE), f"read {number}"
     for number in range(len(text)):
         assert devices.answer(WRITE=number, ERROR=errno.EIO) == (text[:number], DEVICE), f"write {number}"
+
+
+# how many megabytes of address space a process may have: too few for the stacks of 64 threads
+NARROW = (40, 61, 80, 120, 200)
+CALLS = 12
+
+
+@pytest.mark.parametrize("space", NARROW)
+def test_little_address_space(bare_program, space: int):
+    """Many jobs are answered by fewer threads, and the program ends by no signal."""
+    document = hostile.example("saga")
+    lines, (wide, _) = document * 64, hostile.ended(bare_program.path, ("check",), document)
+    for _ in range(CALLS):
+        words = ("check", "--each", "--jobs", "64")
+        status, written = hostile.ended(bare_program.path, words, lines, (resource.RLIMIT_AS, space << 20))
+        assert status in (YES, NO, DEVICE)
+        if status == YES:
+            assert written.decode() == "".join(behind_heads(number, wide, "accepted") for number in range(1, 65))
+
+
+@pytest.mark.parametrize("space", NARROW)
+def test_little_address_space_for_one_document(bare_program, space: int):
+    """So are the claims of one document."""
+    document = hostile.example("saga")
+    words = ("verify", *FEW[:2], "--jobs")
+    alone = hostile.ended(bare_program.path, (*words, "1"), document)
+    for _ in range(CALLS):
+        status, written = hostile.ended(bare_program.path, (*words, "64"), document, (resource.RLIMIT_AS, space << 20))
+        assert (status, written) == alone or status in (MEMORY, DEVICE)
+
+
+@pytest.mark.parametrize("jobs", ("2", "4", "64"))
+def test_threads_cost_little(program, jobs: str):
+    """Lines that are answered at once don't take longer for several jobs: each would start threads anew."""
+    given = b"\n" * 20_000
+    alone, beside = (min(seconds(program, count, given) for _ in range(3)) for count in ("1", jobs))
+    assert beside < 3 * alone + 0.5
+
+
+def seconds(program: Program, jobs: str, given: bytes) -> float:
+    """How long so many jobs take."""
+    begun = time.monotonic()
+    assert each(program, "check", "--jobs", jobs, given=given).exit == NO
+    return time.monotonic() - begun
 
 
 def test_answers_come_before_the_end(bare_program):
@@ -220,6 +267,6 @@ def test_answers_come_before_the_end(bare_program):
 def test_a_certificate_of_each_document(program):
     """What `analyse --whole` writes for documents is a batch that `check` accepts."""
     documents = [ROOT % ('"return"', f',"claims":{ENDS}')] * 3
-    lines = [program("analyse", "--whole", given=it).stdout for it in documents]
-    assert all(json.loads(it) for it in lines)
+    lines = [program("analyse", "--whole", given=document).stdout for document in documents]
+    assert all(json.loads(line) for line in lines)
     assert each(program, "check", given="".join(lines).encode()) == wanted([(YES, "accepted")] * 3)

@@ -21,6 +21,9 @@ SEED = 3
 WORD = re.compile(r"\w+|.", re.DOTALL)
 # the exit statuses of yes, of no, and of what can't be read
 YES, NO, UNREADABLE = 0, 1, 3
+# what is said without being asked for
+NO_CLAIM = "no claim was asked, so nothing is shown\n"
+NO_JOURNAL = "the document has no journal, so nothing was recorded\n"
 # what the reason of an answer says; a task, a claim or a tree counts from 0 in a path
 PLACES = [
     (r"unreadable: not JSON", lambda _: r"line \d+, column \d+"),
@@ -39,7 +42,7 @@ PLACES = [
 def changed(chance: random.Random, text: str) -> str:
     """The text with one of its words in the place of another, long ones more often; what is of no word stands alone."""
     found = list(WORD.finditer(text))
-    out, word = chance.choices(found, [len(it[0]) for it in found], k=2)
+    out, word = chance.choices(found, [len(item[0]) for item in found], k=2)
     return text[: out.start()] + word[0] + text[out.end() :]
 
 
@@ -90,7 +93,7 @@ def test_reason(program, answer, words: tuple[str, ...], text: str):
     plain: Answer = answer(words, text)
     explained = program(*words, "--explain", given=text)
     assert (explained.stdout, explained.exit) == (plain.stdout, plain.exit)
-    assert plain.stderr == ""
+    assert plain.stderr in ("", NO_CLAIM, NO_JOURNAL)
     if plain.exit == YES and (twice := twice_in(text)):
         assert any(f'the member "{name}" stands twice' in explained.stderr for name in twice)
     elif plain.exit == YES:

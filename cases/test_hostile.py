@@ -4,15 +4,22 @@ import pytest
 import hostile
 
 
-@pytest.mark.parametrize("dear", hostile.DEAR, ids=lambda it: f"{it.words[0]}, {it.name}")
+@pytest.mark.parametrize("dear", hostile.DEAR, ids=lambda letter: f"{letter.words[0]}, {letter.name}")
 def test_cost(bare_program, dear):
     assert hostile.dearness(bare_program.path, dear) is None
 
 
-@pytest.mark.parametrize("command", hostile.COMMANDS)
+def test_each_command_has_a_stack():
+    """docs/OUTPUT.md names one for each command, at most 1 MB."""
+    stacks = hostile.needed_stacks()
+    assert {stack[0] for stack in stacks} == set(hostile.COMMANDS)
+    assert max(stacks.values()) <= 1200
+
+
+@pytest.mark.parametrize("words, size", hostile.needed_stacks().items(), ids=str)
 @pytest.mark.parametrize("name", hostile.SHORT)
-def test_small_stack(bare_program, command, name):
-    assert hostile.overflow(bare_program.path, command, name) is None
+def test_small_stack(bare_program, words, size, name):
+    assert hostile.overflow(bare_program.path, words, size, name) is None
 
 
 @pytest.mark.parametrize("command", hostile.COMMANDS)
@@ -28,6 +35,6 @@ def valgrind():
 
 @pytest.mark.usefixtures("valgrind")
 @pytest.mark.parametrize("command", hostile.COMMANDS)
-@pytest.mark.parametrize("file", hostile.small_examples(), ids=lambda it: it.name)
+@pytest.mark.parametrize("file", hostile.small_examples(), ids=lambda letter: letter.name)
 def test_valgrind_finds_nothing(bare_program, command, file):
     assert hostile.strays(bare_program.path, command, file) is None

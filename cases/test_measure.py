@@ -60,7 +60,7 @@ def small():
         yield Small(f"{events} events", speed(2, 1), document, f"{events} events, complete true\n")
 
 
-@pytest.mark.parametrize("measured", small(), ids=lambda it: slug(it.name))
+@pytest.mark.parametrize("measured", small(), ids=lambda letter: slug(letter.name))
 def test_small(request, measured: Small):
     program = request.getfixturevalue("runs" if measured.words[0] == "speed" else "bare_program")
     answer, _, _ = called(program.path, measured.words, text_of(measured.document))

@@ -39,27 +39,29 @@ MORE = {
     "version3-ended": ["the times are those of the document, and arrows are numbered by places"],
 }
 # A requests B's token before it ends, so B never begins; but no certificate shows it.
-VERDICTS = json.dumps({
-    "version": 1,
-    "tokens": ["t"],
-    "tasks": [
-        {"name": "A", "kind": "root", "body": [{"cancel": "t"}]},
-        {"name": "B", "kind": "then", "after": "A", "token": "t", "body": []},
-    ],
-    "claims": [
-        {"final": "A", "in": ["RanToCompletion"]},
-        {"never": "A"},
-        {"final": "A", "in": ["RanToCompletion", "Canceled", "Faulted"]},
-        {"never": "B"},
-    ],
-})
+VERDICTS = json.dumps(
+    {
+        "version": 1,
+        "tokens": ["t"],
+        "tasks": [
+            {"name": "A", "kind": "root", "body": [{"cancel": "t"}]},
+            {"name": "B", "kind": "then", "after": "A", "token": "t", "body": []},
+        ],
+        "claims": [
+            {"final": "A", "in": ["RanToCompletion"]},
+            {"never": "A"},
+            {"final": "A", "in": ["RanToCompletion", "Canceled", "Faulted"]},
+            {"never": "B"},
+        ],
+    }
+)
 NO_MEMORY = ("out of memory\n", 4)
 NO_THREAD = ("run: Spawn\n", 5)
 
 
 def chosen() -> list[Case]:
     """The cases whose allocations are refused."""
-    return [case for file in files() for case in (cases_of(file)[0], *(case_named(file, it) for it in MORE.get(file, ())))]
+    return [case for file in files() for case in (cases_of(file)[0], *(case_named(file, item) for item in MORE.get(file, ())))]
 
 
 def verified() -> list[Case]:

@@ -94,10 +94,10 @@ OPTIONAL = {
     "rows": {"before", "past", "chain", "asked", "asks"},
     "start": {"inputs", "request", "fail"},
 }
-# what doesn't fit any more where this member is lost: there is a time for each line of the journal
-NEEDED_BY = {("journal",): ("times",)}
-
 Path = tuple[str | int, ...]
+
+# what doesn't fit any more where this member is lost: there is a time for each line of the journal
+NEEDED_BY: dict[Path, Path] = {("journal",): ("times",)}
 
 
 def places(value, path: Path = ()) -> Iterator[Path]:
@@ -165,7 +165,8 @@ def may_be_left_out(document, path: Path) -> bool:
     """Whether the member at the path need not be there, and nothing that is there needs it."""
     names = [step for step in path[:-1] if isinstance(step, str)]
     optional = OPTIONAL.get(names[-1] if names else "", ())
-    return path[-1] in optional and NEEDED_BY.get(path) not in places(document)
+    needy = NEEDED_BY.get(path)
+    return path[-1] in optional and (needy is None or needy not in places(document))
 
 
 def losses(optional: bool) -> Iterator:

@@ -53,11 +53,12 @@ def links():
 
 
 def lined_cases():
-    """The cases whose lines are those of docs/OUTPUT.md; a picture's are those of docs/PICTURES.md, and those of many
-    documents have a number and an exit status in front."""
+    """The cases whose lines are those of docs/OUTPUT.md; a picture's are those of docs/PICTURES.md, those of many documents
+    have a number and an exit status in front, and verdicts as JSON or JUnit have a form of their own."""
     for case in all_cases():
         is_picture = case.command == "draw" and case.exit == 0
-        is_plain = not is_picture and "--each" not in case.words
+        is_formed = case.command == "verify" and "--as" in case.words
+        is_plain = not is_picture and not is_formed and "--each" not in case.words
         if case.stdout is not None and case.exit != USAGE and not HELP & set(case.words) and is_plain:
             yield case
 
@@ -85,7 +86,7 @@ def test_picture(desk, name: str, command: str):
 
 
 def test_each_picture_has_a_command():
-    assert set(pages.drawn()) == {it.name for it in (TOP / "docs/pictures").iterdir()}
+    assert set(pages.drawn()) == {path.name for path in (TOP / "docs/pictures").glob("*.svg")}
 
 
 @pytest.mark.parametrize("case", lined_cases(), ids=str)

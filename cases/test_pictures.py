@@ -2,7 +2,7 @@
 page, a pipeline of 40 and one of 300 tasks, and runs of graphs that are drawn by chance are drawn as it follows from the
 rules of docs/PICTURES.md.
 
-The rules are those of drawn.py. The pictures of the examples are also held against the files of pictures/, at which a
+The rules are those of expected_pictures.py. The pictures of the examples are also held against the files of pictures/, at which a
 person has looked, and Graphviz has to read what is written for it: one node for each task and token, one line for each
 edge. A certificate of these documents that has a tree for each claim is taken as accepted, and `check` has to say the same;
 their journals are taken as runs, and in that of a false claim the claim fails where its page says so.
@@ -20,7 +20,7 @@ import pytest
 
 import debian
 from chance import Wide
-from drawn import LANGUAGES, Failure, accepted, drawn_examples, edges, kept_picture, picture
+from expected_pictures import LANGUAGES, Failure, accepted, drawn_examples, edges, kept_picture, picture
 from harness import TOP, Answer, Program, failing_runs, whole_run
 
 PIPELINES = {"pipeline-of-40": 8, "pipeline-of-300": 73}
@@ -53,7 +53,7 @@ def pipeline(shards: int) -> dict:
 
 
 def documents() -> list[Drawn]:
-    failing = {it.name: (it.document, Failure(claim=1, place=it.place)) for it in failing_runs()}
+    failing = {run.name: (run.document, Failure(claim=1, place=run.place)) for run in failing_runs()}
     document, failure = failing[FAILED]
     goes_on = {**document, "journal": document["journal"] + FURTHER}
     return [
@@ -64,7 +64,7 @@ def documents() -> list[Drawn]:
     ]
 
 
-DOCUMENTS = [pytest.param(it, id=it.name) for it in documents()]
+DOCUMENTS = [pytest.param(each_document, id=each_document.name) for each_document in documents()]
 
 
 @pytest.fixture(scope="module")
@@ -82,7 +82,7 @@ def check_read(dot: str, document: dict, text: str):
     """Graphviz reads the picture as it is meant."""
     ended = subprocess.run([dot, "-Tsvg"], input=text, capture_output=True, text=True, check=False)
     assert (ended.returncode, ended.stderr) == (0, "")
-    nodes, lines = (len(re.findall(f'class="{it}"', ended.stdout)) for it in ("node", "edge"))
+    nodes, lines = (len(re.findall(f'class="{word}"', ended.stdout)) for word in ("node", "edge"))
     assert nodes == len(document["tasks"]) + len(document.get("tokens", []))
     assert lines == len(list(edges(document)))
 
@@ -100,7 +100,9 @@ def test_picture(program, graphviz, drawn: Drawn, language: str):
         check_read(graphviz, drawn.document, answer.stdout)
 
 
-@pytest.mark.parametrize("drawn", [pytest.param(it, id=it.name) for it in documents() if accepted(it.document)])
+@pytest.mark.parametrize(
+    "drawn", [pytest.param(document, id=document.name) for document in documents() if accepted(document.document)]
+)
 def test_run(program, drawn: Drawn):
     """What `run --whole` writes is drawn."""
     ran, text = whole_run(program, drawn.document, WORKERS, LIMIT)
@@ -131,7 +133,7 @@ def refuted(program: Program, number: int) -> Answer:
 def test_refutations_of_drawn_graphs(program):
     """By the last event of each journal the claim fails."""
     answers = [refuted(program, number) for number in range(DRAWN)]
-    texts = [it.stdout for it in answers if it.exit == REFUTED]
+    texts = [each_answer.stdout for each_answer in answers if each_answer.exit == REFUTED]
     assert len(texts) > DRAWN // 2
     for text in texts:
         document = json.loads(text)

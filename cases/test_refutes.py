@@ -3,11 +3,12 @@
 A claim for which `analyse` finds a certificate is never refuted, also where all its runs are tried. Of a document with many
 claims the answer is that to the first one that fails, whichever are passed over. Each claim of which a page of examples/
 shows a run in which it fails, or of which a case of `audit` says where it fails, is refuted within the runs that are tried
-unless told otherwise. The same words give the same text. Of two shortest runs each is found by some seed, and no longer
-one. Each document that is written is the one that was read but for the inputs and the journal, and without what was seen of
-another run; `audit` finds a run there, and that the claim fails after its last event; and `check` refuses the document. In
-each run bodies nest, also in those of graphs that are drawn by chance; no run is found where only one that no thread makes
-would do; and a large document is answered before the time is over.
+unless told otherwise. The same words give the same text. Of two smallest runs each is found by some seed, and no larger one.
+Where one request does it no job fails, where no job has to fail none does, and one worker acts where one is enough. Each
+document that is written is the one that was read but for the inputs and the journal, and without what was seen of another
+run; `audit` finds a run there, and that the claim fails after its last event; and `check` refuses the document. In each run
+bodies nest, also in those of graphs that are drawn by chance; no run is found where only one that no thread makes would do;
+and a large document is answered before the time is over.
 """
 import json
 import random
@@ -16,9 +17,9 @@ import time
 
 import pytest
 
+from body_nesting import unnested
 from graphs import Drawn
 from harness import Answer, Program, all_cases, cases_of, compact, examples, failing_runs
-from nested import unnested
 from test_verify import worked_out
 
 FAILS = re.compile(r"claim (\d+) fails at")
@@ -32,39 +33,46 @@ HOLDS, REFUTED, UNREADABLE = 0, 1, 3
 # what was seen of another run, which isn't written
 SEEN = ("ended", "times")
 NOT_REFUTED = Answer(HOLDS, "not refuted\n", "")
-# Two of ten roots may begin in either order, and by both the claim fails. No run is shorter, and the other roots aren't needed.
-EITHER = json.dumps({
-    "version": 1,
-    "tasks": [{"name": name, "kind": "root", "body": ["return"]} for name in "ABCDEFGHIJ"],
-    "claims": [{"excludes": ["A", "B"]}],
-})
+# Two of ten roots may begin in either order, and by both the claim fails. No run is smaller than one by one worker, which
+# leaves the one body before it begins the other. The other roots aren't needed.
+EITHER = json.dumps(
+    {
+        "version": 1,
+        "tasks": [{"name": name, "kind": "root", "body": ["return"]} for name in "ABCDEFGHIJ"],
+        "claims": [{"excludes": ["A", "B"]}],
+    }
+)
 SEEDS = 32
 # how many graphs are drawn by chance, with a claim each
 DRAWN = 400
 # Two synchronous continuations of one task cancel and check crosswise: on the thread that ends the task one of them runs
 # after the other, so exactly one faults. Both do only where somebody outside requests a token first.
 SYNCHRONOUS, FAULTED = {"options": ["ExecuteSynchronously"]}, {"options": ["OnlyOnFaulted"]}
-CROSSWISE = json.dumps({
-    "version": 1,
-    "tokens": ["one", "other"],
-    "tasks": [
-        {"name": "A", "kind": "root", "body": []},
-        {"name": "B", "kind": "then", "after": "A", "body": [{"cancel": "one"}, {"check": "other"}], **SYNCHRONOUS},
-        {"name": "C", "kind": "then", "after": "A", "body": [{"cancel": "other"}, {"check": "one"}], **SYNCHRONOUS},
-        {"name": "E", "kind": "then", "after": "B", "body": [], **FAULTED},
-        {"name": "F", "kind": "then", "after": "C", "body": [], **FAULTED},
-    ],
-    "claims": [{"excludes": ["E", "F"]}],
-})
+CROSSWISE = json.dumps(
+    {
+        "version": 1,
+        "tokens": ["one", "other"],
+        "tasks": [
+            {"name": "A", "kind": "root", "body": []},
+            {"name": "B", "kind": "then", "after": "A", "body": [{"cancel": "one"}, {"check": "other"}], **SYNCHRONOUS},
+            {"name": "C", "kind": "then", "after": "A", "body": [{"cancel": "other"}, {"check": "one"}], **SYNCHRONOUS},
+            {"name": "E", "kind": "then", "after": "B", "body": [], **FAULTED},
+            {"name": "F", "kind": "then", "after": "C", "body": [], **FAULTED},
+        ],
+        "claims": [{"excludes": ["E", "F"]}],
+    }
+)
 # A run of each of 1,024 tasks, none of which can be left out; and 64 true claims over as many roots.
-CHAIN = json.dumps({
-    "version": 1,
-    "tasks": [
-        {"name": "T0", "kind": "root", "body": []},
-        *({"name": f"T{number}", "kind": "then", "after": f"T{number - 1}", "body": []} for number in range(1, 1024)),
-    ],
-    "claims": [{"never": "T1023"}],
-})
+CHAIN = json.dumps(
+    {
+        "version": 1,
+        "tasks": [
+            {"name": "T0", "kind": "root", "body": []},
+            *({"name": f"T{number}", "kind": "then", "after": f"T{number - 1}", "body": []} for number in range(1, 1024)),
+        ],
+        "claims": [{"never": "T1023"}],
+    }
+)
 
 
 def long_root(number: int) -> dict:
@@ -73,14 +81,106 @@ def long_root(number: int) -> dict:
     return {"name": f"T{number}", "kind": "root", "body": body}
 
 
-TRUE = json.dumps({
-    "version": 1,
-    "tasks": [long_root(number) for number in range(1024)],
-    "claims": [{"final": f"T{number}", "in": ["RanToCompletion", "Canceled", "Faulted"]} for number in range(64)],
-})
+TRUE = json.dumps(
+    {
+        "version": 1,
+        "tasks": [long_root(number) for number in range(1024)],
+        "claims": [{"final": f"T{number}", "in": ["RanToCompletion", "Canceled", "Faulted"]} for number in range(64)],
+    }
+)
+# how many seeds each of the claims is searched by whose givens a body would break
+KEPT_SEEDS = 20
 # seconds, on a machine that does much else
 FOUND_WITHIN = 10
 ENDED_WITHIN = 60
+
+
+# Many jobs, any of which keeps Publish from its begin by failing, and a request does it to all of them at once.
+JOBS = 23
+ENDED_BY_REQUEST = json.dumps(
+    {
+        "version": 3,
+        "tokens": ["stop"],
+        "tasks": [
+            *(
+                {"name": f"Job{number}", "kind": "root", "body": [{"work": f"job{number}", "may_fail": True}], "token": "stop"}
+                for number in range(JOBS)
+            ),
+            {"name": "All", "kind": "all", "of": [f"Job{number}" for number in range(JOBS)]},
+            {"name": "Publish", "kind": "then", "after": "All", "body": [], "options": ["OnlyOnRanToCompletion"]},
+        ],
+        "claims": [{"runs": "Publish"}],
+    }
+)
+# Each job may fail, and Report doesn't begin in runs in which the first one doesn't.
+NO_FAILURE_NEEDED = json.dumps(
+    {
+        "version": 3,
+        "tasks": [
+            *(
+                {"name": f"Job{number}", "kind": "root", "body": [{"work": f"job{number}", "may_fail": True}]}
+                for number in range(JOBS)
+            ),
+            {"name": "Report", "kind": "then", "after": "Job0", "body": [], **FAULTED},
+        ],
+        "claims": [{"runs": "Report"}],
+    }
+)
+# What one worker does in a body, and another beside it, one does after the other.
+ONE_WORKER = json.dumps(
+    {
+        "version": 1,
+        "tasks": [
+            {"name": "Parent", "kind": "root", "body": [{"start": "Child"}, {"work": "rest"}]},
+            {"name": "Child", "kind": "child", "body": []},
+        ],
+        "claims": [{"excludes": ["Parent", "Child"]}],
+    }
+)
+SMALL_SEEDS = 8
+
+
+def stages(count: int, *, tokens: list, last: list, watch: list, claim: dict) -> str:
+    """A chain of stages whose jobs may fail. The last one has the body `last` and its own token `local`, a handler runs where
+    it is canceled, and beside them stands a root with the body `watch`."""
+    ran, canceled = {"options": ["OnlyOnRanToCompletion"]}, {"options": ["OnlyOnCanceled"]}
+    names = [f"S{number}" for number in range(count)]
+    job = {name: [{"work": f"w{name}", "may_fail": True}] for name in names[:-1]}
+    chain = [
+        {"name": name, "kind": "then", "after": before, "body": job.get(name, last), **ran}
+        for before, name in zip(names, names[1:])
+    ]
+    chain[-1]["token"] = "local"
+    return json.dumps(
+        {
+            "version": 3,
+            "tokens": tokens,
+            "tasks": [
+                {"name": "S0", "kind": "root", "body": job["S0"]},
+                *chain,
+                {"name": "H", "kind": "then", "after": names[-1], "body": [], **canceled},
+                {"name": "Watch", "kind": "root", "body": watch},
+            ],
+            "claims": [claim],
+        }
+    )
+
+
+def kept():
+    """Claims that fail only in runs in which what is given isn't broken by a body that may do so at any moment."""
+    check, both = [{"check": "local"}], {"name": "both", "linked": ["stop"]}
+    for count in (8, 12):
+        body = {"excludes": ["H", f"S{count - 1}"]}
+        quiet = {"given": [{"quiet": "stop"}], **body}
+        cancel, tokens = [{"cancel": "stop"}], ["local", "stop"]
+        yield f"{count} stages", stages(count, tokens=tokens, last=check, watch=cancel, claim=quiet)
+        # a request of a token to which the one that is given is linked
+        linked = {"given": [{"quiet": "both"}], **body}
+        yield f"{count} stages, linked", stages(count, tokens=[*tokens, both], last=check, watch=cancel, claim=linked)
+        # the statement stands behind others, and the job before them has to succeed
+        sure = {"given": ["no_failure", {"quiet": "stop"}], **body}
+        behind = [{"work": "watched", "may_fail": True}, {"check": "stop"}, *cancel]
+        yield f"{count} stages, no failure", stages(count, tokens=tokens, last=check, watch=behind, claim=sure)
 
 
 def alone(document: dict, claim: dict) -> str:
@@ -225,11 +325,54 @@ def test_large_document(program, text: str, exit_status: int, seconds: float):
     assert time.monotonic() - started < seconds
 
 
-def test_seeds_find_each_shortest_run(program):
+def test_seeds_find_each_smallest_run(program):
     orders = set()
     for seed in range(SEEDS):
         answer = refute(program, "--seed", str(seed), text=EITHER)
         assert answer.exit == REFUTED, f"seed {seed}"
         check_refutation(program, EITHER, answer.stdout)
         orders.add(tuple(line.partition(" ")[2] for line in json.loads(answer.stdout)["journal"].splitlines()))
-    assert orders == {("begin A", "begin B"), ("begin B", "begin A")}
+    assert orders == {("begin A", "step A", "leave A", "begin B"), ("begin B", "step B", "leave B", "begin A")}
+
+
+def journal_of(program: Program, text: str, seed: int) -> list[str]:
+    """The events of the run that is found."""
+    answer = refute(program, "--seed", str(seed), text=text)
+    assert answer.exit == REFUTED, answer.stdout
+    check_refutation(program, text, answer.stdout)
+    return json.loads(answer.stdout)["journal"].splitlines()
+
+
+@pytest.mark.parametrize("seed", range(SMALL_SEEDS))
+def test_one_request_does_it(program, seed: int):
+    """Rather than failures: each task ends by one event, and no body is begun."""
+    events = journal_of(program, ENDED_BY_REQUEST, seed)
+    drops = {f"o1 drop Job{number}" for number in range(JOBS)}
+    assert events[0] == "o1 request stop"
+    assert set(events[1:-2]) == drops and len(events) == 1 + JOBS + 2
+    assert events[-2:] == ["o1 settle All", "o1 drop Publish"]
+
+
+@pytest.mark.parametrize("seed", range(SMALL_SEEDS))
+def test_no_job_fails_needlessly(program, seed: int):
+    events = journal_of(program, NO_FAILURE_NEEDED, seed)
+    done = [
+        f"w1 {act}" for number in range(JOBS) for act in (f"begin Job{number}", f"worked Job{number} done", f"leave Job{number}")
+    ]
+    assert sorted(events) == sorted([*done, "w1 drop Report"])
+
+
+@pytest.mark.parametrize("seed", range(SMALL_SEEDS))
+def test_one_worker_does_it(program, seed: int):
+    events = journal_of(program, ONE_WORKER, seed)
+    body = ["w1 begin Parent", "w1 step Parent", "w1 worked Parent done", "w1 leave Parent"]
+    assert events == [*body, "w1 begin Child"]
+
+
+@pytest.mark.parametrize("seed", range(KEPT_SEEDS))
+@pytest.mark.parametrize("text", [pytest.param(text, id=name) for name, text in kept()])
+def test_what_is_given_is_kept(program, text: str, seed: int):
+    """The step that would break it isn't played, and the run goes on."""
+    answer = refute(program, "--claim", "1", "--seed", str(seed), text=text)
+    assert answer.exit == REFUTED, answer.stdout
+    check_refutation(program, text, answer.stdout)

@@ -24,7 +24,7 @@ def test_case(program, case: Case):
     assert set(case.contains) <= set(answer.stdout.split("\n"))
     assert not HIDDEN.search(answer.stderr)
     if case.stderr is not None:
-        assert all(it in answer.stderr for it in case.stderr), [it for it in case.stderr if it not in answer.stderr]
+        assert all(item in answer.stderr for item in case.stderr), [item for item in case.stderr if item not in answer.stderr]
         assert bool(answer.stderr) == bool(case.stderr)
 
 
@@ -40,7 +40,7 @@ RUN = {"journal": "w1 begin A\nw1 leave A\n", "start": {"inputs": {}}}
 )
 def test_whole_documents_are_as_long_as_one_that_is_read(program, words: tuple[str, ...], found: dict):
     room = LONGEST - len(compact({**ROOT, **found, "note": ""}))
-    longest, longer = ({"note": "n" * it} for it in (room, room + 1))
+    longest, longer = ({"note": "n" * item} for item in (room, room + 1))
     answer = program(*words, given=compact({**ROOT, **longest}))
     is_whole = answer.stdout == compact({**ROOT, **found, **longest})
     assert (is_whole, answer.exit) == (True, 0)

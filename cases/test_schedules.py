@@ -71,5 +71,5 @@ def test_other_numbers_give_other_orders(bare_program, scheduled):
     tasks = [{"name": f"T{number}", "kind": "root", "body": [{"work": f"S{number}"}, "return"]} for number in range(APART)]
     document = {"version": 1, "tasks": tasks}
     reports = [Report(scheduled.ran(document, WORKERS, seed).stdout) for seed in range(ORDERS)]
-    assert {audited(bare_program, document, it) for it in reports} == {("run complete\n", 0)}
-    assert len({it.journal for it in reports}) >= JOURNALS
+    assert {audited(bare_program, document, report) for report in reports} == {("run complete\n", 0)}
+    assert len({report.journal for report in reports}) >= JOURNALS

@@ -23,6 +23,7 @@ UNSEEN = {
     "a name of 34 letters in 101 bytes",
     "a time too few",
     "a journal with a time too few",
+    "a time too many for lines that end with CR LF",
     "times of fewer lines",
     "a time too many",
     "times without a journal",

@@ -10,12 +10,12 @@ import subprocess
 import pytest
 
 import chance
-import decided
+import count_decided
 import pages
 from harness import COMMANDS, LIMIT, TOP, USAGE, Program
 
 ONE_ROOT = TOP / "examples/one-root.json"
-ASK, PIPELINE = (Program(TOP / "examples" / it) for it in ("ask", "pipeline"))
+ASK, PIPELINE = (Program(TOP / "examples" / each_word) for each_word in ("ask", "pipeline"))
 
 
 # ---- examples/ask
@@ -53,7 +53,7 @@ def test_pipelines_have_four_tasks_a_shard(shards: int, tasks: int):
 def test_pipelines_keep_the_limits():
     tasks = json.loads(PIPELINE().stdout)["tasks"]
     assert max(len(task.get("of", [])) for task in tasks) <= 256
-    assert sum(1 for task in tasks for it in task.get("body", []) if "work" in it) <= 256
+    assert sum(1 for task in tasks for statement in task.get("body", []) if "work" in statement) <= 256
 
 
 @pytest.mark.parametrize("shards", ["0", "249", "two"])
@@ -67,8 +67,9 @@ def test_pipeline_refuses_other_numbers(shards: str):
 
 def test_each_file_of_tests_is_run():
     tests = runpy.run_path(str(TOP / "test"))["TESTS"]
-    run = {word for it in tests for word in it.command if word.endswith(".py")}
-    assert run == {f"{folder}/{it.name}" for folder in ("cases", ".ci") for it in (TOP / folder).glob("test_*.py")}
+    run = {word for test in tests for word in test.command if word.endswith(".py")}
+    folders = ("cases", ".ci", "ports", "dist", "dotnet")
+    assert run == {f"{folder}/{path.name}" for folder in folders for path in (TOP / folder).glob("test_*.py")}
 
 
 # ---- the version, help, and terminals
@@ -181,7 +182,7 @@ def test_a_wrong_page_fails(program, tmp_path):
 def in_sources(expression: str, *folders: str) -> set[str]:
     """What the expression finds in the sources of these folders below crates/."""
     sources = (source for folder in folders for source in TOP.glob(f"crates/{folder}/*.rt"))
-    return {it for source in sources for it in re.findall(expression, source.read_text(encoding="utf-8"))}
+    return {match for source in sources for match in re.findall(expression, source.read_text(encoding="utf-8"))}
 
 
 ANSWERING = ("tpl_commands/src", "tpl_report/src")
@@ -210,15 +211,15 @@ SAID = {"final", "after", "observed", "never", "excludes", "runs"}
 @pytest.mark.parametrize("shape, kinds", [("graphs", SAID - {"runs"}), ("pipelines", SAID)])
 def test_claims_that_are_counted_can_be_asked(program, shape: str, kinds: set[str]):
     """Each document is read; it has no tree for its claim."""
-    drawn = dict(decided.documents(shape, 25, 0, 3))
-    lines = program("check", "--each", given="".join(f"{json.dumps(it)}\n" for it in drawn.values())).stdout.splitlines()
-    assert lines == [f"{number} 1 refused: shape claim 1" for number in range(1, 25 * decided.CLAIMS + 1)]
-    assert {word for it in drawn.values() for word in it["claims"][0]} & SAID == kinds
+    drawn = dict(count_decided.documents(shape, 25, 0, 3))
+    lines = program("check", "--each", given="".join(f"{json.dumps(item)}\n" for item in drawn.values())).stdout.splitlines()
+    assert lines == [f"{number} 1 refused: shape claim 1" for number in range(1, 25 * count_decided.CLAIMS + 1)]
+    assert {word for item in drawn.values() for word in item["claims"][0]} & SAID == kinds
 
 
 def test_claims_that_are_counted_are_always_the_same():
-    one, other = (json.dumps([*decided.documents("pipelines", 5, 7, 3)]) for _ in range(2))
-    assert one == other != json.dumps([*decided.documents("pipelines", 5, 8, 3)])
+    one, other = (json.dumps([*count_decided.documents("pipelines", 5, 7, 3)]) for _ in range(2))
+    assert one == other != json.dumps([*count_decided.documents("pipelines", 5, 8, 3)])
 
 
 # ---- the documents that both machines play

@@ -11,7 +11,7 @@ import pytest
 
 from harness import TOP, Program
 
-DATA = TOP / "crates/tpl_tests_runs/data"
+DATA = TOP / "tests/sessions/data"
 
 # with ample memory: one session that two workers run, and one in which a token is requested
 FULL = ["run", "closed", "requested", "closed"]
@@ -85,5 +85,5 @@ def test_refused(sessions, rest):
 
 
 def test_each_call_had_no_memory(sessions):
-    met = {call for rest in (ALONE, ALL_AFTER) for it in sessions.refused(*rest) for call in it.calls}
+    met = {call for rest in (ALONE, ALL_AFTER) for item in sessions.refused(*rest) for call in item.calls}
     assert WITHOUT <= met

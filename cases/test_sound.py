@@ -57,7 +57,7 @@ def test_drawn_graph(program, number: int):
     assert comparison.wrong == []
 
 
-@pytest.mark.parametrize("mistake", MISTAKES, ids=lambda it: it.name)
+@pytest.mark.parametrize("mistake", MISTAKES, ids=lambda letter: letter.name)
 def test_mistake_shows(program, mistake: Mistake):
     document = mistaken(SHOWN[mistake], mistake)
     assert document, "no claim that doesn't hold has a certificate"
@@ -75,8 +75,10 @@ def test_mistake_shows(program, mistake: Mistake):
 def worked_certificates() -> list[Case]:
     """The cases in which a certificate of one claim is checked."""
     is_answer = re.compile("accepted|refused: ").match
-    checked = [it for it in all_cases() if it.command == "check" and is_answer(it.stdout or "")]
-    return [it for it in checked if [len(json.loads(it.stdin).get(word, [])) for word in ("claims", "certificate")] == [1, 1]]
+    checked = [case for case in all_cases() if case.command == "check" and is_answer(case.stdout or "")]
+    return [
+        case for case in checked if [len(json.loads(case.stdin).get(word, [])) for word in ("claims", "certificate")] == [1, 1]
+    ]
 
 
 @pytest.mark.parametrize("case", worked_certificates(), ids=str)
@@ -132,8 +134,8 @@ def test_least_rows_say_nothing_of_what_never_ends():
 
 def test_least_rows_have_one_chain():
     """Of the two WhenAll tasks with a reader the least one; no chain for a task that the claim doesn't name."""
-    roots, alls = [root(it, {"throw": "x"}) for it in "AB"], [waits("W1", "all", "A"), waits("W2", "all", "A", "B")]
-    said = document(*roots, *alls, *(after(f"R{it}", f"W{it}", "observe") for it in "21"))
+    roots, alls = [root(letter, {"throw": "x"}) for letter in "AB"], [waits("W1", "all", "A"), waits("W2", "all", "A", "B")]
+    said = document(*roots, *alls, *(after(f"R{letter}", f"W{letter}", "observe") for letter in "21"))
     chains = {name: row.chain for name, row in least_rows(said, {"observed": "A"}).items() if row.chain}
     assert chains == {"A": [2, 5]}
 
@@ -141,7 +143,7 @@ def test_least_rows_have_one_chain():
 @pytest.mark.parametrize("links", [LONGEST_CHAIN - 1, LONGEST_CHAIN])
 def test_least_rows_have_no_chain_that_is_too_long(links: int):
     """So many WhenAll tasks, each of the one before it, and then the reader."""
-    names = ["A", *(f"W{it}" for it in range(links))]
+    names = ["A", *(f"W{number}" for number in range(links))]
     alls = [waits(name, "all", before) for before, name in zip(names, names[1:])]
     said = document(root("A", {"throw": "x"}), *alls, after("R", names[-1], "observe"))
     chain = [*range(1, links + 2)] if links < LONGEST_CHAIN else []
@@ -154,9 +156,9 @@ def test_rows_are_left_out_and_written_out():
     leaf, split = tokens.assumed(graph, claim), Split("split_winner", "N", "A")
     short = split.tree([LEAST, LEAST])
     whole = tokens.with_rows(leaf, short)
-    assert [it["rows"][0]["chain"] for it in (whole["yes"], whole["no"])] == [["C"], []]
+    assert [item["rows"][0]["chain"] for item in (whole["yes"], whole["no"])] == [["C"], []]
     assert tokens.without_rows(whole) == short
-    assert [tokens.verdict(graph, claim, it) for it in (short, whole)] == ["refused: claim 1 leaf 2"] * 2
+    assert [tokens.verdict(graph, claim, item) for item in (short, whole)] == ["refused: claim 1 leaf 2"] * 2
 
 
 # ---- how runs are gone through
@@ -172,7 +174,7 @@ def test_states_are_counted():
 def test_a_token_is_requested_at_any_moment():
     """Requested before the task begins it cancels it; behind that it doesn't, since the body checks nothing."""
     (runs,) = Truth(document(root("A", token="k"), tokens=["k"])).all
-    ends = {(it.finals, it.begun, it.requested) for it in runs.facts if it.is_complete}
+    ends = {(fact.finals, fact.begun, fact.requested) for fact in runs.facts if fact.is_complete}
     ran, begun, asked = ("RanToCompletion",), frozenset([0]), frozenset("k")
     assert ends == {(ran, begun, frozenset()), (ran, begun, asked), (("Canceled",), frozenset(), asked)}
 
@@ -184,13 +186,13 @@ def test_claims_hold_or_fail():
     faulted, calm = {"given": [{"ended": "A", "in": ["Faulted"]}]}, {"given": ["no_failure"]}
     hold = [{"after": ["A", "X"]}, {"observed": "A"}, {"runs": "A"}, {**faulted, "runs": "X"}, {**calm, "never": "X"}]
     fail = [{"runs": "X"}, {"never": "X"}, {**calm, "runs": "X"}, {**faulted, "never": "A"}, {"excludes": ["A", "X"]}]
-    assert [truth.holds(it) for it in hold] == [True] * len(hold)
-    assert [truth.holds(it) for it in fail] == [False] * len(fail)
+    assert [truth.holds(claim) for claim in hold] == [True] * len(hold)
+    assert [truth.holds(claim) for claim in fail] == [False] * len(fail)
 
 
 def test_inputs_have_each_value():
     body = {"if": "dry", "then": [{"throw": "no"}], "else": []}
     truth = Truth(document(root("A", body), inputs=["dry"]))
     ran, faulted = {"final": "A", "in": ["RanToCompletion"]}, {"final": "A", "in": ["Faulted"]}
-    wet, dry = ({"given": [{"input": "dry", "is": it}]} for it in (False, True))
-    assert [truth.holds(it) for it in (ran, {**wet, **ran}, {**dry, **faulted}, {**dry, **ran})] == [False, True, True, False]
+    wet, dry = ({"given": [{"input": "dry", "is": value}]} for value in (False, True))
+    assert [truth.holds(item) for item in (ran, {**wet, **ran}, {**dry, **faulted}, {**dry, **ran})] == [False, True, True, False]

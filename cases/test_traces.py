@@ -1,7 +1,7 @@
 """The journal of each example, and of each run of one that `run --whole` writes, is traced as it follows from the rules of
 docs/PICTURES.md.
 
-The rules are those of traced.py. Runs of graphs that are drawn by chance are traced by them too, with times and without.
+The rules are those of expected_traces.py. Runs of graphs that are drawn by chance are traced by them too, with times and without.
 What `run --whole` writes is the example with a run, in which `audit` finds no claim that fails. The traces of the examples'
 own journals are also held against the files of traces/, at which a person has looked. Each trace is read back as a viewer
 does, with a stack for each track, of which each end closes the innermost slice: its slices have to be the bodies that the
@@ -14,9 +14,9 @@ import random
 import pytest
 
 from chance import Wide
-from drawn import accepted
+from expected_pictures import accepted
+from expected_traces import ENDINGS, kept_trace, trace
 from harness import Answer, Program, examples, whole_run
-from traced import ENDINGS, kept_trace, trace
 
 WORKERS = (1, 4)
 LIMIT = 300
@@ -53,7 +53,7 @@ DOCUMENTS = {file.stem: json.loads(file.read_text(encoding="utf-8")) for file in
 
 def tracks(found: list[dict]) -> dict[int, str]:
     """The names of the tracks by their numbers."""
-    return {it["tid"]: it["args"]["name"] for it in found if it["name"] == "thread_name"}
+    return {event["tid"]: event["args"]["name"] for event in found if event["name"] == "thread_name"}
 
 
 def slices(found: list[dict]):
@@ -61,13 +61,13 @@ def slices(found: list[dict]):
     called, from where to where; of one that doesn't end, no end."""
     names = tracks(found)
     begun: dict[int, list[tuple[str, int]]] = {}
-    for it in found:
-        track = begun.setdefault(it.get("tid", 0), [])
-        if it["ph"] == "B":
-            track.append((it["name"], it["ts"]))
-        if it["ph"] == "E":
+    for event in found:
+        track = begun.setdefault(event.get("tid", 0), [])
+        if event["ph"] == "B":
+            track.append((event["name"], event["ts"]))
+        if event["ph"] == "E":
             name, start = track.pop()
-            yield names[it["tid"]].split(":")[0], name, start, it["ts"]
+            yield names[event["tid"]].split(":")[0], name, start, event["ts"]
     for tid, left in begun.items():
         for name, start in left:
             yield names[tid].split(":")[0], name, start, None
@@ -86,8 +86,8 @@ def check_arrows(document: dict, found: list[dict]):
     """Each arrow of a trace leads from the ending of a task to the release of one that continues it."""
     lines = document["journal"].splitlines()
     after = {task["name"]: task.get("after") for task in document["tasks"]}
-    starts = {it["id"]: it["ts"] for it in found if it["ph"] == "s"}
-    ends = {it["id"]: it["ts"] for it in found if it["ph"] == "f"}
+    starts = {event["id"]: event["ts"] for event in found if event["ph"] == "s"}
+    ends = {event["id"]: event["ts"] for event in found if event["ph"] == "f"}
     assert starts.keys() == ends.keys()
     for number, start in starts.items():
         assert number == ends[number]

@@ -1,4 +1,4 @@
-"""`verify` says of each claim what is so, in each of its three formats.
+"""`verify` says of each claim what is so, in each of its four formats.
 
 verdicts/claims.toml has claims of which it was worked out by hand whether they hold. Of claims about graphs that are drawn
 by chance the verdicts agree with `analyse`, `check`, `refute` and `audit`, claim by claim. The same words give the same
@@ -14,22 +14,36 @@ import random
 import re
 import sys
 import tomllib
+import xml.etree.ElementTree
 
 import pytest
 
 import debian
 from graphs import Drawn
 from harness import HERE, TOP, Answer, Program, compact, slug
+from hostile import cost_of
 from test_schema import jsonschema
 
 YES, NO = 0, 1
-FORMATS = ("text", "json", "junit")
+FORMATS = ("text", "json", "junit", "html")
 JOBS = ("1", "2", "8")
 DEPTH = "6"
 # how many graphs are drawn by chance, how many claims each has, and how many runs are tried for each
 DRAWN, CLAIMS, RUNS = 250, 4, "300"
 LIMIT = 300
+# how many tasks a chain has, and how often the cost of one claim about it those of all may be
+CHAIN, OFTEN = 512, 40
 LINE = re.compile(r'claim (\d+)(?: "(.+)")? (holds|fails|empty|unknown): (.+)')
+# why a claim is empty: the word of the JSON, and the line of the text
+REASONS = {
+    "NeverBegins": "{task} never begins",
+    "NamesAllEnds": "it names each way to end",
+    "NamesGivenEnds": "it names each way to end that is given",
+    "NeverThrows": "there is never an exception to observe",
+    "NeverEndsSo": "{task} never ends in a way that is given",
+    "NeverEnds": "{task} never ends",
+    "NeverKept": "no complete run keeps what is given",
+}
 # the verdicts that are a failure for a reporter of tests
 FAILURES = ("fails", "empty", "unknown")
 
@@ -44,14 +58,17 @@ def bare(document: dict) -> dict:
     return {name: it for name, it in document.items() if name not in ("claims", "certificate", "start", "journal")}
 
 
-def worked_out():
-    """Each document with its claims, and their verdicts; in another version where a version is named."""
+def worked_out(member: str = "verdict"):
+    """Each document with its claims, and their verdicts or another member, where one has that; in another version where a
+    version is named."""
     for table in tables():
         document = bare(json.loads((TOP / table["file"]).read_text(encoding="utf-8")))
         document["version"] = table.get("version", document["version"])
-        text = json.dumps({**document, "claims": [it["claim"] for it in table["claims"]]})
+        text = json.dumps({**document, "claims": [claim["claim"] for claim in table["claims"]]})
         name = f"{table['file'].partition('.')[0]} {document['version']}"
-        yield pytest.param(text, [it["verdict"] for it in table["claims"]], id=slug(name))
+        wanted = [claim.get(member) for claim in table["claims"]]
+        if any(wanted):
+            yield pytest.param(text, wanted, id=slug(name))
 
 
 def verify(program: Program, *words: str, text: str) -> Answer:
@@ -63,7 +80,7 @@ def verdicts(program: Program, *words: str, text: str) -> list[dict]:
     answer = verify(program, *words, "--as", "json", text=text)
     said = json.loads(answer.stdout)
     assert answer.stdout == compact(said)
-    assert [it["claim"] for it in said["claims"]] == list(range(1, len(said["claims"]) + 1))
+    assert [claim["claim"] for claim in said["claims"]] == list(range(1, len(said["claims"]) + 1))
     assert said["sums"] == sums(said["claims"])
     assert answer.exit == (YES if said["sums"]["holds"] == said["sums"]["claims"] else NO)
     return said["claims"]
@@ -71,7 +88,7 @@ def verdicts(program: Program, *words: str, text: str) -> list[dict]:
 
 def sums(each: list[dict]) -> dict[str, int]:
     """How many claims there are, and how many of each verdict."""
-    words = [it["verdict"] for it in each]
+    words = [entry["verdict"] for entry in each]
     return {"claims": len(words), **{word: words.count(word) for word in ("holds", *FAILURES)}}
 
 
@@ -151,13 +168,55 @@ def described():
     return module.Draft202012Validator(schema)
 
 
+# characters that mean something to XML, or are easily taken for such that it has no place for; each is read as it is
+KEPT = ("&amp;", "<", "]]>", "\"'", "\ufdd0", "\ufffd", "\ue000", "\U0001fffe", "\U0010ffff", "\u2028", "\ud7ff")
+# what claims are called, and what a report says: U+FFFD where XML has no place for a character
+NAMES = {
+    **{name: name for name in KEPT},
+    "\ufffe": "\ufffd",
+    "\uffff": "\ufffd",
+    "a\uffff\ufffe&\uffff<": "a\ufffd\ufffd&\ufffd<",
+}
+
+
+def test_junit_with_any_name(program):
+    """The report is XML to any parser, whatever the claims are called."""
+    claims = [{"name": name, "final": "A", "in": ["RanToCompletion"]} for name in NAMES]
+    task = {"name": "A", "kind": "root", "body": []}
+    answer = verify(program, "--as", "junit", text=json.dumps({"version": 3, "tasks": [task], "claims": claims}))
+    cases = xml.etree.ElementTree.fromstring(answer.stdout.encode()).iter("testcase")
+    wanted = [f'claim {number} "{name}": A ends RanToCompletion' for number, name in enumerate(NAMES.values(), 1)]
+    assert [case.get("name") for case in cases] == wanted
+
+
 @pytest.mark.parametrize("text, wanted", worked_out())
 def test_worked_out(program, text: str, wanted: list[str]):
     each = verdicts(program, text=text)
-    assert [it["verdict"] for it in each] == wanted
+    assert [entry["verdict"] for entry in each] == wanted
     for said in each:
         if said["verdict"] == "fails":
             check_run(program, text, said)
+
+
+def lines_below(text: str) -> list[list[str]]:
+    """The lines that belong to each claim in the text format."""
+    below: list[list[str]] = []
+    for line in text.splitlines()[:-1]:
+        if line.startswith("  "):
+            below[-1].append(line.removeprefix("  "))
+        else:
+            below.append([])
+    return below
+
+
+@pytest.mark.parametrize("text, wanted", worked_out("says"))
+def test_reasons(program, text: str, wanted: list[str | None]):
+    """Why a claim is empty is said in the text, and by a word and its task in the JSON."""
+    each = [said.get("empty") for said in verdicts(program, text=text)]
+    below = lines_below(verify(program, text=text).stdout)
+    for reason, lines, says in zip(each, below, wanted, strict=True):
+        assert says == (REASONS[reason["why"]].format_map(reason) if reason else None)
+        assert not reason or lines == [says]
 
 
 @pytest.mark.drawn(DRAWN)
@@ -178,7 +237,22 @@ def test_jobs(program, text: str, wanted: list[str]):
     """The same bytes for every number of jobs, in each format."""
     for form in FORMATS:
         first, *others = (verify(program, "--as", form, "--jobs", jobs, "--runs", RUNS, text=text) for jobs in JOBS)
-        assert all((it.stdout, it.exit) == (first.stdout, first.exit) for it in others), form
+        assert all((other.stdout, other.exit) == (first.stdout, first.exit) for other in others), form
+
+
+def chain(claims: int) -> str:
+    """Continuations behind each other, and so many claims that one begins only after the one before it is settled."""
+    links = [{"name": f"T{number}", "kind": "then", "after": f"T{number - 1}", "body": []} for number in range(1, CHAIN)]
+    after = [{"after": [f"T{number}", f"T{number + 1}"]} for number in range(claims)]
+    return json.dumps({"version": 3, "tasks": [{"name": "T0", "kind": "root", "body": []}, *links], "claims": after})
+
+
+def test_many_claims(bare_program):
+    """What many claims share is worked out once: each claim more costs a small part of the first."""
+    words = ("verify", "--jobs", "1", "--runs", "0")
+    one, all_claims = (cost_of(bare_program.path, words, chain(claims), LIMIT) for claims in (1, CHAIN - 1))
+    assert (one.exit, all_claims.exit) == (YES, YES)
+    assert all_claims.seconds < OFTEN * max(one.seconds, 0.01)
 
 
 @pytest.mark.parametrize("text, wanted", worked_out())
@@ -186,15 +260,19 @@ def test_formats_agree(program, junit, text: str, wanted: list[str]):
     """The text, the JSON and the JUnit say the same of each claim."""
     each = verdicts(program, text=text)
     written = verify(program, text=text)
-    assert words_of(written.stdout) == [(str(it["claim"]), it.get("name"), it["verdict"], it["text"]) for it in each]
+    assert words_of(written.stdout) == [
+        (str(entry["claim"]), entry.get("name"), entry["verdict"], entry["text"]) for entry in each
+    ]
     last = written.stdout.splitlines()[-1]
     assert last == ", ".join(f"{name} {count}" for name, count in sums(each).items())
     suites = junit.read(verify(program, "--as", "junit", text=text).stdout)
     (suite,) = suites
     cases = suite.findall("testcase")
-    assert [it.get("name") for it in cases] == [f"claim {it['claim']}{quoted(it)}: {it['text']}" for it in each]
-    failed = [[it.get("type") for it in case] for case in cases]
-    assert failed == [[it["verdict"]] if it["verdict"] in FAILURES else [] for it in each]
+    assert [each_case.get("name") for each_case in cases] == [
+        f"claim {entry['claim']}{quoted(entry)}: {entry['text']}" for entry in each
+    ]
+    failed = [[part.get("type") for part in case] for case in cases]
+    assert failed == [[entry["verdict"]] if entry["verdict"] in FAILURES else [] for entry in each]
     assert (suite.get("tests"), suite.get("failures")) == (str(len(each)), str(sum(map(len, failed))))
 
 

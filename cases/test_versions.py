@@ -15,8 +15,9 @@ from harness import Answer, Case, Program, all_cases
 from tokens import without_rows
 
 VERSION = re.compile(rb'("version"\s*:\s*)[12](?=\s*[,}])')
-# these show members and certificates of version 3 beside what earlier versions say of them
-NEW = ("wider-documents", "wider-certificates", "version3-reading", "least")
+# these show members and certificates of version 3 beside what earlier versions say of them, and which options and limits of a
+# search decide whether a verdict is unknown
+NEW = ("wider-documents", "wider-certificates", "version3-reading", "least", "verifies")
 # a certificate is found, which `check` accepts in version 3; in the version of the case there is none
 FOUND = "found"
 # each case that is answered otherwise, and how
@@ -37,9 +38,14 @@ OTHERWISE = {
     "a linked token in version 1": "refused: shape claim 1\n",
     # version 3 has 1,024 claims; these documents have no trees
     "65 claims": "refused: shape claim 1\n",
+    # in version 3 the lines of a journal may end with CR LF
+    "a carriage return": "run not complete\n",
+    "lines of a journal that end as on Windows": "run not complete\n",
+    "lines that end with CR LF, version 1": "run complete\n",
+    "lines that end with CR LF, version 2": "run complete\n",
 }
 # what an answer may be before, where it is another in version 3
-BEFORE = ("not found: ", "unreadable: shape top\n", "unreadable: claim 65 TooMany\n")
+BEFORE = ("not found: ", "unreadable: shape top\n", "unreadable: claim 65 TooMany\n", "unreadable: journal line 1\n")
 
 
 def newer(text: bytes) -> bytes:
@@ -63,7 +69,7 @@ def split_up(text: str) -> tuple[dict, list]:
 def check_found(program: Program, case: Case, answer: Answer):
     """It is a certificate whose leaves have rows only where they are asked for, and is accepted."""
     _, trees = split_up(answer.stdout)
-    assert "--rows" in case.words or trees == [without_rows(it) for it in trees]
+    assert "--rows" in case.words or trees == [without_rows(tree) for tree in trees]
     document = {**json.loads(case.stdin), "certificate": trees}
     assert program("check", given=json.dumps(document)).stdout == "accepted\n"
 

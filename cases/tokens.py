@@ -56,12 +56,12 @@ class Row(rules.Row):
 
 def tasks_of(facts: Iterable[Fact]) -> set[int]:
     """The tasks that are settled by these facts."""
-    return {it for it in facts if isinstance(it, int)}
+    return {fact for fact in facts if isinstance(fact, int)}
 
 
 def tokens_of(facts: Iterable[Fact]) -> set[str]:
     """The tokens that are requested by these facts."""
-    return {it for it in facts if isinstance(it, str)}
+    return {fact for fact in facts if isinstance(fact, str)}
 
 
 # ---- the paths of a body
@@ -69,13 +69,13 @@ def tokens_of(facts: Iterable[Fact]) -> set[str]:
 
 class Known(NamedTuple):
     """What all paths to a place have: the tokens that they know, and what holds once the attached children have ended that
-    they started."""
+    they started, these tokens among it."""
 
     tokens: frozenset[str]
     later: frozenset[Fact] = frozenset()
 
     def with_tokens(self, tokens: Iterable[str]):
-        return self._replace(tokens=self.tokens.union(tokens))
+        return Known(self.tokens.union(tokens), self.later.union(tokens))
 
 
 # the paths to a place, those that are burdened apart: what they have in common, where there are any
@@ -93,7 +93,10 @@ def meet(each: Iterable[Known]) -> Known | None:
 
 def joined(each: Sequence[Live]) -> Live:
     """The paths of each, burdened ones and others apart."""
-    met = {is_burdened: meet(it[is_burdened] for it in each if is_burdened in it) for is_burdened in (False, True)}
+    met = {
+        is_burdened: meet(each_known[is_burdened] for each_known in each if is_burdened in each_known)
+        for is_burdened in (False, True)
+    }
     return {is_burdened: known for is_burdened, known in met.items() if known is not None}
 
 
@@ -107,7 +110,7 @@ class Paths:
         self.ends: dict[str, list[Known]] = collections.defaultdict(list)
         self.starts: dict[int, list[Known]] = collections.defaultdict(list)
         self.may_throw = False
-        self.end(RETURNED, self.through(self.task.body, {False: Known(self.at_first())}))
+        self.end(RETURNED, self.through(self.task.body, {False: Known(frozenset()).with_tokens(self.at_first())}))
 
     def at_first(self) -> frozenset[str]:
         """The tokens that a path knows at its start."""
@@ -131,7 +134,7 @@ class Paths:
         """The paths that pass a statement."""
         word, leaf = statement[0], self.rules.leaf
         if word in ("if", "when"):
-            return joined([self.through(it, live) for it in taken_lists(leaf, self.subject, statement)])
+            return joined([self.through(each_list, live) for each_list in taken_lists(leaf, self.subject, statement)])
         if word in ("return", "throw"):
             self.end(RETURNED if word == "return" else THROWN, live)
             return {}
@@ -191,10 +194,10 @@ class Leaf(rules.Leaf):
     def split(self, split: Split) -> list:
         place = self.graph.places[split.what] if split.word != "split_input" else 0
         if split.word == "split_end":
-            return [self.with_left(place, {it}) for it in FINALS]
+            return [self.with_left(place, {final}) for final in FINALS]
         if split.word == "split_winner":
             one = {self.graph.places[split.task or ""]}
-            return [self.with_winners(place, it) for it in (one, self.winners[place] - one)]
+            return [self.with_winners(place, item) for item in (one, self.winners[place] - one)]
         return super().split(split)
 
     def with_left(self, place: int, ends: Set[str]):
@@ -206,13 +209,13 @@ class Leaf(rules.Leaf):
         return dataclasses.replace(self, winners=tuple(winners))
 
     def splits(self) -> list[Split]:
-        names = [it.name for it in self.graph.tasks]
-        several = [it for it in self.graph.having("any") if len(self.graph.tasks[it].of) > 1]
-        winners = [Split("split_winner", names[it], names[x]) for it in several for x in sorted(self.graph.tasks[it].of)]
+        names = [task.name for task in self.graph.tasks]
+        several = [place for place in self.graph.having("any") if len(self.graph.tasks[place].of) > 1]
+        winners = [Split("split_winner", names[item], names[x]) for item in several for x in sorted(self.graph.tasks[item].of)]
         return [*super().splits(), *winners]
 
     def read(self, rows: list[dict]):
-        return Rules(self, [row_of(self.graph, it) for it in rows])
+        return Rules(self, [row_of(self.graph, row) for row in rows])
 
     def best(self):
         return least(self)
@@ -226,8 +229,8 @@ class Leaf(rules.Leaf):
             is_sure = CANCELED not in left[place] or Mistake.ANTECEDENT_CUT_ALWAYS in self.planted
             if task.kind == "then" and is_sure:
                 left[task.antecedent] -= task.excluded
-            for it in task.of if task.kind == "all" else ():
-                left[it] -= self.cut_by_all(left[place])
+            for argument in task.of if task.kind == "all" else ():
+                left[argument] -= self.cut_by_all(left[place])
         return [one & other for one, other in zip(left, self.cut)]
 
     def cut_by_all(self, left: Set[str]) -> set[str]:
@@ -243,8 +246,8 @@ class Leaf(rules.Leaf):
 def assumed(graph: Graph, claim: dict, planted: Iterable[Mistake] = ()) -> Leaf:
     """What a certificate assumes for a claim, before its splits."""
     given = rules.assumed(graph, claim, True)
-    said = {it.name: getattr(given, it.name) for it in dataclasses.fields(given)}
-    every, winners = frozenset(FINALS), tuple(frozenset(it.of) for it in graph.tasks)
+    said = {field.name: getattr(given, field.name) for field in dataclasses.fields(given)}
+    every, winners = frozenset(FINALS), tuple(frozenset(task.of) for task in graph.tasks)
     observed = graph.places[claim["observed"]] if "observed" in claim else None
     return Leaf(**said, left=tuple(every for _ in graph.tasks), winners=winners, planted=frozenset(planted), observed=observed)
 
@@ -284,7 +287,7 @@ class Rules(rules.Rules):
         after = self.graph.tasks[place].after
         if after is None or self.graph.tasks[after].kind != "any":
             return super().subject(place)
-        each = [self.rows[it].ends for it in self.winners(after)]
+        each = [self.rows[each_place].ends for each_place in self.winners(after)]
         if Mistake.SUBJECT_OF_EACH in self.leaf.planted:
             return set(FINALS).intersection(*each)
         return set().union(*each)
@@ -313,9 +316,9 @@ class Rules(rules.Rules):
         """The ways in which a task with a body may end."""
         drops = list(self.drops(place))
         if Mistake.UNION_OVER_DROPS in self.leaf.planted:
-            every = set().union(*(it.facts for it in drops))
-            drops = [it._replace(facts=every) for it in drops]
-        return [it for it in (*self.by_body(place), *drops) if it.final in self.cut[place]]
+            every = set().union(*(drop.facts for drop in drops))
+            drops = [drop._replace(facts=every) for drop in drops]
+        return [statement for statement in (*self.by_body(place), *drops) if statement.final in self.cut[place]]
 
     def by_body(self, place: int) -> Iterator[Way]:
         """Its body ends it."""
@@ -323,7 +326,7 @@ class Rules(rules.Rules):
         for final, each in Paths(self, place, True).ends.items() if row.runs else ():
             known = meet(each)
             if known:
-                yield Way(final, row.begins | self.before_begin(place) | known.tokens | known.later)
+                yield Way(final, row.begins | self.before_begin(place) | known.later)
 
     def before_begin(self, place: int) -> Set[Fact]:
         """What holds when the task may begin, besides what its row says."""
@@ -369,7 +372,7 @@ class Rules(rules.Rules):
             return self.all_ends(task.of) & self.cut[place]
         if task.kind == "any":
             return self.any_ends(self.winners(place)) & self.cut[place]
-        return {it.final for it in self.ways(place)}
+        return {way.final for way in self.ways(place)}
 
     def every_fact(self) -> Set[Fact]:
         return {*range(len(self.rows)), *self.graph.sources}
@@ -388,16 +391,16 @@ class Rules(rules.Rules):
         if task.kind == "all":
             return set().union(*map(self.once_ended, task.of))
         if task.kind == "any":
-            each = [self.once_ended(it) for it in self.winners(place) if self.rows[it].ends]
+            each = [self.once_ended(each_place) for each_place in self.winners(place) if self.rows[each_place].ends]
             is_mistaken = Mistake.UNION_OVER_WINNERS in self.leaf.planted and each
             return set().union(*each) if is_mistaken else self.in_each(each)
-        return self.graph.below(place) | self.in_each([it.facts for it in self.ways(place)])
+        return self.graph.below(place) | self.in_each([way.facts for way in self.ways(place)])
 
     def in_each(self, each: list[Set[Fact]]) -> Set[Fact]:
         """The facts that are in each of these, all where there is none."""
         common = self.every_fact()
-        for it in each:
-            common &= it
+        for known in each:
+            common &= known
         return common
 
     def reads(self, reader: int, place: int) -> bool:
@@ -416,7 +419,7 @@ class Rules(rules.Rules):
         return Paths(self, place, True).may_throw
 
     def tree(self) -> dict:
-        return {"rows": [row_text(self.graph, it) for it in self.rows]}
+        return {"rows": [row_text(self.graph, row) for row in self.rows]}
 
 
 # ---- the least rows
@@ -464,7 +467,7 @@ def make_end(made: Rules, place: int):
 def without_rows(tree: Tree) -> Tree:
     """The tree with leaves without rows."""
     branches = split_on(tree)
-    return branches.split.tree([without_rows(it) for it in branches.trees]) if branches else LEAST
+    return branches.split.tree([without_rows(each_tree) for each_tree in branches.trees]) if branches else LEAST
 
 
 def with_rows(leaf: Leaf, tree: Tree) -> Tree:
@@ -482,7 +485,10 @@ def with_rows(leaf: Leaf, tree: Tree) -> Tree:
 
 def row_text(graph: Graph, row: Row) -> dict:
     """A row as a document has it."""
-    named = lambda tokens: [it for it in graph.sources if it in tokens]
+
+    def named(tokens):
+        return [source for source in graph.sources if source in tokens]
+
     return {"asked": named(row.asked), "asks": named(row.asks), **rules.row_text(graph, row)}
 
 

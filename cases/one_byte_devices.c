@@ -2,7 +2,7 @@
    output takes one byte a write. The read whose number, from 0, is in READ fails, and so does the write whose number is
    in WRITE, with the error whose number is in ERROR; where that is 0 it moves nothing. At the end it says how many reads
    and writes there were. */
-#include "ending.h"
+#include "at_exit.h"
 
 extern int *__errno_location(void);
 

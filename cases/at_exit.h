@@ -1,4 +1,4 @@
-/* What refuse.c and narrow.c share: `tell` is called at the end of the program, however it ends. */
+/* What refuse.c and one_byte_devices.c share: `tell` is called at the end of the program, however it ends. */
 extern char *getenv(const char *);
 extern long atol(const char *);
 extern int dprintf(int, const char *, ...);

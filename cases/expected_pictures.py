@@ -10,7 +10,7 @@ import tokens
 from harness import HERE, examples, tell_kept
 from rules import split_on
 from small import Graph
-from stood import statuses
+from task_statuses import statuses
 
 PICTURES = HERE / "pictures"
 LANGUAGES = {"mermaid": "mmd", "dot": "dot"}

@@ -9,7 +9,11 @@ class Run:
 
     def __init__(self, document: dict):
         self.tasks = {task["name"]: task for task in document["tasks"]}
-        self.linked = {it["name"]: it["linked"] for it in document.get("tokens", []) if isinstance(it, dict) and "linked" in it}
+        self.linked = {
+            token["name"]: token["linked"]
+            for token in document.get("tokens", [])
+            if isinstance(token, dict) and "linked" in token
+        }
         self.inputs = document.get("start", {}).get("inputs", {})
         self.parents = {child: name for name, task in self.tasks.items() for child in started(task.get("body", []))}
         self.requested: set[str] = set()
@@ -43,7 +47,7 @@ class Run:
                     self.end_body(name, "Faulted")
             case "leave":
                 self.left.add(name)
-                if all(it in self.ends for it in self.children(task)):
+                if all(child in self.ends for child in self.children(task)):
                     self.end(place, name, self.end_of_body(task))
             case "close":
                 self.end(place, name, self.end_of_body(task))
@@ -84,23 +88,23 @@ class Run:
         before = self.tasks[task["after"]]
         if before["kind"] != "any":
             return before["name"]
-        return min((it for it in before["of"] if it in self.ends), key=self.places.__getitem__)
+        return min((argument for argument in before["of"] if argument in self.ends), key=self.places.__getitem__)
 
     def children(self, task: dict) -> list[str]:
         """The attached children that were started."""
         if "DenyChildAttach" in task.get("options", []):
             return []
-        own = [it for it in self.started if self.parents[it] == task["name"]]
-        return [it for it in own if "AttachedToParent" in self.tasks[it].get("options", [])]
+        own = [name for name in self.started if self.parents[name] == task["name"]]
+        return [name for name in own if "AttachedToParent" in self.tasks[name].get("options", [])]
 
     def end_of_body(self, task: dict) -> str:
-        if any(self.ends[it] == "Faulted" for it in self.children(task)):
+        if any(self.ends[child] == "Faulted" for child in self.children(task)):
             return "Faulted"
         return self.outcome.get(task["name"], "RanToCompletion")
 
     def end_of_wait(self, task: dict) -> str:
-        ends = [self.ends[it] for it in task["of"]] if task["kind"] == "all" else []
-        return next((it for it in ("Faulted", "Canceled") if it in ends), "RanToCompletion")
+        ends = [self.ends[argument] for argument in task["of"]] if task["kind"] == "all" else []
+        return next((word for word in ("Faulted", "Canceled") if word in ends), "RanToCompletion")
 
     def status(self, name: str) -> str:
         """The task's status, as the API documentation calls it."""
