@@ -67,7 +67,7 @@ def without_comment(line: str) -> str:
 
 def without_silent_bounds(signature: str, said: str) -> str:
     """A signature without the bounds of those type parameters that no clause names: nothing is said of them."""
-    return BOUND.sub(lambda it: it[0] if re.search(rf"\b{it[1]}\b", said) else it[1], signature)
+    return BOUND.sub(lambda item: item[0] if re.search(rf"\b{item[1]}\b", said) else item[1], signature)
 
 
 def parts_of(name: str) -> list[str]:
@@ -278,7 +278,10 @@ class Repository:
         missing = set(clauses) - {name for _, name in heads}
         if missing:
             raise LookupError(f"{path}: {function} has no clause {missing}")
-        is_kept = lambda kind, name: kind == "requires" or not clauses or name in clauses
+
+        def is_kept(kind, name):
+            return kind == "requires" or not clauses or name in clauses
+
         kept = [text for text, head in zip(contract, heads, strict=True) if is_kept(*head)]
         before = text[: head.start()]
         owner = re.findall(r"^impl\b.*?\{$", before, re.MULTILINE | re.DOTALL)[-1:] if head.group(1) else []
@@ -299,7 +302,7 @@ class Repository:
             elif isinstance(it, Sort):
                 waiting.extend(self.of_type(it))
         return Reach(
-            frozenset(it for it in met if isinstance(it, Item)),
-            frozenset(it for it in met if isinstance(it, Sort)),
-            frozenset(it for it in met if isinstance(it, str)),
+            frozenset(item for item in met if isinstance(item, Item)),
+            frozenset(item for item in met if isinstance(item, Sort)),
+            frozenset(item for item in met if isinstance(item, str)),
         )

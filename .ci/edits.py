@@ -1,13 +1,17 @@
 """Wrong bodies: the edits that make them, the functions that they fall into, the rounds in which they are tried together,
 and what a check's lines say of each.
 
-An edit is a file of lines 'file: src/a.rt' and pairs 'old: TEXT' and 'new: TEXT', as under must-fail/: each old text
-stands in that file exactly once.
+An edit is a table of a crate's wrong.toml, by its name: a file, the old text, which stands in that file exactly once, and
+the new one; or a list `changes` of several such. What `rt must-fail` reads is a file of lines 'file: src/a.rt' and pairs
+'old: TEXT' and 'new: TEXT'.
 """
 import functools
 import os
 import re
+import tomllib
 from typing import NamedTuple
+
+from crates import TOP
 
 
 class Function(NamedTuple):
@@ -45,26 +49,58 @@ class BadEdit(Exception):
     """The edit cannot be tried, and why."""
 
 
-def parse(name, text):
-    """The edit that a file's text describes."""
-    file, old, changes = "", None, []
-    for line in text.split("\n"):
-        if line.startswith("file: "):
-            file = line[len("file: ") :].strip()
-            if os.path.normpath(file) != file or not file.startswith(("src/", "specs/", "proofs/")):
-                raise BadEdit("a 'file:' line names no file below src/, specs/ or proofs/")
-        elif line.startswith("old: "):
-            if old is not None:
-                raise BadEdit("an 'old:' line has no 'new:' line")
-            old = line[len("old: ") :]
-        elif line.startswith("new:"):
-            if not file or not old:
-                raise BadEdit("a 'new:' line stands before any 'file:' or 'old:' line")
-            changes.append(Change(file, old, re.sub(r"\A ", "", line[len("new:") :])))
-            old = None
-    if not changes or old is not None:
-        raise BadEdit("it has no 'old:' and 'new:' pair, or an 'old:' line has no 'new:' line")
-    return Edit(name, tuple(changes))
+def is_of_crate(file):
+    """The path is that of a file which a check of the crate reads."""
+    return os.path.normpath(file) == file and file.startswith(("src/", "specs/", "proofs/"))
+
+
+def change_of(row):
+    """The change that a table, or a row of its list, describes."""
+    if not isinstance(row, dict) or set(row) != {"file", "old", "new"} or not all(isinstance(item, str) for item in row.values()):
+        raise BadEdit("it has no file, old and new, each a text, and nothing else")
+    if not is_of_crate(row["file"]):
+        raise BadEdit("its file is none below src/, specs/ or proofs/")
+    if not row["old"] or "\n" in row["old"] + row["new"]:
+        raise BadEdit("its old text is empty, or a text has more than one line")
+    return Change(**row)
+
+
+def edits_in(text):
+    """The edits of a wrong.toml, and what is wrong with others, by their names."""
+    good, bad = [], {}
+    for name, table in tomllib.loads(text).items():
+        try:
+            if not re.fullmatch(r"[A-Za-z0-9_-]+", name):
+                raise BadEdit("an edit's name is of letters, digits, _ and -")
+            rows = table["changes"] if isinstance(table, dict) and set(table) == {"changes"} else [table]
+            if not isinstance(rows, list) or not rows:
+                raise BadEdit("its list of changes is none, or empty")
+            good.append(Edit(name, tuple(change_of(row) for row in rows)))
+        except BadEdit as why:
+            bad[name] = str(why)
+    return good, bad
+
+
+def must_fail_text(edit):
+    """The text of the file by which `rt must-fail` tries an edit."""
+    return "".join(f"file: {change.file}\nold: {change.old}\nnew: {change.new}\n" for change in edit.changes)
+
+
+def edits_of(name):
+    """A crate's edits, and what is wrong with others, by their names."""
+    path, good, bad = f"{TOP}/crates/{name}/wrong.toml", [], {}
+    try:
+        if os.path.isfile(path):
+            with open(path, encoding="utf-8") as file:
+                good, bad = edits_in(file.read())
+    except (OSError, UnicodeDecodeError, tomllib.TOMLDecodeError) as why:
+        bad["wrong.toml"] = str(why)
+    return good, {it: f"BAD EDIT: {why}" for it, why in bad.items()}
+
+
+def has_edits(name):
+    """The crate has some."""
+    return os.path.isfile(f"{TOP}/crates/{name}/wrong.toml")
 
 
 def applied(edit, texts):
@@ -105,7 +141,7 @@ def parted(text):
                 parts.append("")
             else:
                 parts[-1] += letter
-    return outside, [it.strip() for it in parts if it.strip()]
+    return outside, [part.strip() for part in parts if part.strip()]
 
 
 def last_word(text):
@@ -118,7 +154,7 @@ def owner_of(header):
     words = re.split(r" where |\{", header.strip())[0].strip()
     own = []
     if words.startswith("<"):
-        own = [last_word(it.partition(":")[0]) for it in parted(words)[1]]
+        own = [last_word(part.partition(":")[0]) for part in parted(words)[1]]
         depth = 0
         for at, letter in enumerate(words):
             depth += (letter == "<") - (letter == ">" and words[at - 1] != "-")
@@ -126,8 +162,8 @@ def owner_of(header):
                 words = words[at + 1 :].strip()
                 break
     trait, _, type_ = words.rpartition(" for ")
-    of = [last_word(it) for it in parted(trait)[1] if not it.startswith(("'", "("))]
-    return last_word(type_) + last_word(trait) + "".join(it for it in of if it not in own)
+    of = [last_word(part) for part in parted(trait)[1] if not part.startswith(("'", "("))]
+    return last_word(type_) + last_word(trait) + "".join(argument for argument in of if argument not in own)
 
 
 def module_of(file):
@@ -183,11 +219,11 @@ def functions_of(file, text, types=None):
             begin = starts[opens] + lines[opens].index("{")
             closing = opens
             if lines[opens].endswith("{"):
-                ends = [it for it in range(opens, len(lines)) if lines[it] == fn[1] + "}"]
+                ends = [number for number in range(opens, len(lines)) if lines[number] == fn[1] + "}"]
                 closing = ends[0] if ends else opens
             inside = owner if owner_indent is not None and len(fn[1]) > len(owner_indent) else ""
             home = (types or {}).get(inside, module)
-            path = "::".join(it for it in (home, inside, fn[2]) if it)
+            path = "::".join(item for item in (home, inside, fn[2]) if item)
             key = f"{module}+{cycle}" if cycle else ""
             found.append(Function(path, inside, fn[2], starts[at], begin, starts[closing] + len(lines[closing]), key))
         cycle = None
@@ -196,7 +232,7 @@ def functions_of(file, text, types=None):
 
 def types_of(file, text):
     """The modules of the types that a source file declares, by the types' names."""
-    return {it: module_of(file) for it in re.findall(r"(?m)^ *(?:pub(?:\([a-z ]+\))? )?(?:struct|enum) (\w+)", text)}
+    return {match: module_of(file) for match in re.findall(r"(?m)^ *(?:pub(?:\([a-z ]+\))? )?(?:struct|enum) (\w+)", text)}
 
 
 class Crate:
@@ -211,40 +247,40 @@ class Crate:
             self.types.update(types_of(file, text))
         for file, text in sources.items():
             self.of_file[file] = functions_of(file, text, self.types)
-            for it in self.of_file[file]:
+            for function in self.of_file[file]:
                 # of two functions of one name a check's line does not tell which it means
-                self.functions[it.path] = None if it.path in self.functions else it
+                self.functions[function.path] = None if function.path in self.functions else function
         # functions for whose proofs rattle takes no hole
         self.whole = set()
         # a function whose proof is a hole may have no body either: then a hole can stand for each function of a cycle too
         self.has_stubs = True
         self.calls = {}
         for file, functions in self.of_file.items():
-            for it in functions:
-                self.calls[it.path] = self.called(it, texts[file][it.at : it.end])
+            for function in functions:
+                self.calls[function.path] = self.called(function, texts[file][function.at : function.end])
 
     def called(self, function, body):
         """The crate's functions that a body may call, as far as their names tell."""
-        owners = {it.owner for it in self.functions.values() if it and it.owner}
+        owners = {each_function.owner for each_function in self.functions.values() if each_function and each_function.owner}
         found = set()
         for dot, prefix, name in re.findall(r"(\.?)(?:\b(\w+)::)?\b(\w+)\b", body):
             prefix = function.owner if prefix == "Self" else prefix
-            for it in self.named.get(name, ()):
+            for each_function in self.named.get(name, ()):
                 if prefix in owners:
-                    is_it = it.owner == prefix
+                    is_it = each_function.owner == prefix
                 else:
-                    is_it = bool(it.owner) == bool(dot)
+                    is_it = bool(each_function.owner) == bool(dot)
                 if is_it:
-                    found.add(it.path)
+                    found.add(each_function.path)
         return found
 
     @functools.cached_property
     def named(self):
         """The functions of each name."""
         found = {}
-        for it in self.functions.values():
-            if it:
-                found.setdefault(it.name, []).append(it)
+        for function in self.functions.values():
+            if function:
+                found.setdefault(function.name, []).append(function)
         return found
 
     def reach(self, path):
@@ -252,8 +288,8 @@ class Crate:
         one proof, and what is behind one of them that keeps its proof."""
         found, left = set(), [path]
         while left:
-            for it in self.calls.get(left.pop(), ()):
-                for each in self.together(it) - found:
+            for call in self.calls.get(left.pop(), ()):
+                for each in self.together(call) - found:
                     found.add(each)
                     left += [] if self.takes_hole(each) else [each]
         return found
@@ -263,7 +299,11 @@ class Crate:
         function = self.functions.get(path)
         if not function or not function.cycle:
             return {path}
-        return {it.path for it in self.functions.values() if it and it.cycle == function.cycle}
+        return {
+            each_function.path
+            for each_function in self.functions.values()
+            if each_function and each_function.cycle == function.cycle
+        }
 
     def takes_hole(self, path):
         """A hole can stand for the function's proof: not where its body destructures a value that is dropped, nor, where
@@ -276,12 +316,12 @@ class Crate:
     def cycles(self):
         """The functions of each cycle of calls, by the folder of its proof files: that of their module, or of their type."""
         found = {}
-        for it in self.functions.values():
-            if it and it.cycle:
-                module, _, name = it.cycle.rpartition("+")
-                for home in {module, it.path.rpartition("::")[0]}:
+        for function in self.functions.values():
+            if function and function.cycle:
+                module, _, name = function.cycle.rpartition("+")
+                for home in {module, function.path.rpartition("::")[0]}:
                     folder = "/".join(["proofs", *filter(None, home.split("::")), f"+{name}"])
-                    found.setdefault(folder, set()).update(self.together(it.path))
+                    found.setdefault(folder, set()).update(self.together(function.path))
         return found
 
     def places(self, edit):
@@ -293,7 +333,7 @@ class Crate:
                 return None
             at = text.index(change.old)
             functions = functions_of(change.file, text, self.types) if change.file in self.of_file else ()
-            holds = [it for it in functions if it.at <= at and at + len(change.old) <= it.end]
+            holds = [function for function in functions if function.at <= at and at + len(change.old) <= function.end]
             # the innermost
             if not holds or not self.functions.get(holds[-1].path):
                 return None
@@ -315,7 +355,7 @@ def can_have_twin(crate, path):
     if function.owner and function.owner not in crate.types:
         return False
     file, text = next((file, crate.texts[file]) for file, found in crate.of_file.items() if function in found)
-    inside = [it for it in crate.of_file[file] if function.head < it.head < function.end]
+    inside = [each_function for each_function in crate.of_file[file] if function.head < each_function.head < function.end]
     before = r"\b(?:Self::|self\.)" if function.owner else r"(?<![\w.:])"
     is_again = re.search(rf"{before}{function.name}(?:::<[^()]*>)?\(", text[function.at : function.end])
     folder = "proofs/" + path.replace("::", "/")
@@ -364,23 +404,23 @@ def next_round(crate, left, places, first=frozenset(), unedited=()):
     functions `first` are chosen before others, and none in one to which those that are tried `unedited` come. Returns them
     and the crate's texts with all of them."""
     many = {}
-    for it in left:
-        for path in places[it.name]:
+    for edit in left:
+        for path in places[edit.name]:
             many[path] = many.get(path, 0) + 1
-    order = sorted(left, key=lambda it: (not places[it.name] <= first, -max(many[path] for path in places[it.name])))
+    order = sorted(left, key=lambda edit: (not places[edit.name] <= first, -max(many[path] for path in places[edit.name])))
     chosen, texts, taken, cycles = [], dict(crate.texts), set(), set()
     reached = set().union(*(crate.reach(path) for path in unedited))
-    for it in order:
-        own = places[it.name]
+    for edit in order:
+        own = places[edit.name]
         own_cycles = {crate.functions[path].cycle for path in own} - {""}
         below = set().union(*(crate.reach(path) for path in own)) - own
         if own & taken or own_cycles & cycles or own & reached or below & taken:
             continue
         try:
-            texts = applied(it, texts)
+            texts = applied(edit, texts)
         except BadEdit:
             continue
-        chosen.append(it)
+        chosen.append(edit)
         taken |= own
         cycles |= own_cycles
         reached |= below
@@ -394,7 +434,7 @@ def lines_of(said):
 
 def names_in(line):
     """The functions and modules that a function's line names."""
-    return [it for it in re.findall(r"`([^`]*)`", line) if "::" in it or it.startswith("Rattle.")]
+    return [match for match in re.findall(r"`([^`]*)`", line) if "::" in match or match.startswith("Rattle.")]
 
 
 PASSED = re.compile(r"(proved|no holes|depends on a hole in .*)\Z")
@@ -405,18 +445,20 @@ OWN_GOAL = re.compile(r"`search` did not prove `|it stands on `")
 def is_own(crate, function, name):
     """The name is of the function itself, of a closure in it or of its own proof, which functions of one cycle share."""
     if function.cycle:
-        together = [it for it in crate.functions.values() if it and it.cycle == function.cycle]
+        together = [
+            each_function for each_function in crate.functions.values() if each_function and each_function.cycle == function.cycle
+        ]
     else:
         together = [function]
-    for it in together:
-        module = it.path.rpartition("::")[0]
-        if it.owner:
+    for each_function in together:
+        module = each_function.path.rpartition("::")[0]
+        if each_function.owner:
             module = module.rpartition("::")[0]
-        inner = it.path[len(module) :].removeprefix("::")
+        inner = each_function.path[len(module) :].removeprefix("::")
         closures = "::".join(word for word in (crate.name, module, "fn", inner) if word) + "::"
-        if name == f"{crate.name}::{it.path}" or name.startswith(closures):
+        if name == f"{crate.name}::{each_function.path}" or name.startswith(closures):
             return True
-        for path in (f"{crate.name}::{it.path}::", closures):
+        for path in (f"{crate.name}::{each_function.path}::", closures):
             if name.startswith(f"Rattle.{crate.name}.proofs." + path[len(crate.name) + 2 :].replace("::", ".")):
                 return True
     module, _, cycle = function.cycle.rpartition("+")
@@ -427,7 +469,10 @@ def is_own(crate, function, name):
 def is_sound(crate, edited, name, lines):
     """The name is of a function that is not edited and lacks nothing but holes' proofs, or of an impl of such functions."""
     told = {it: line for it, line in lines.items() if it == name or it.startswith(f"{name}::")}
-    is_edited = lambda it: it.removeprefix(f"{crate.name}::") in edited
+
+    def is_edited(it):
+        return it.removeprefix(f"{crate.name}::") in edited
+
     return bool(told) and all(PASSED.match(line) and not is_edited(it) for it, line in told.items())
 
 
@@ -437,11 +482,13 @@ def verdict(crate, path, lines, edited, has_open_goal=False):
     may tell of an open goal that the function's line doesn't name."""
     function = crate.functions[path]
     own = {name: it for name, it in lines.items() if is_own(crate, function, name)}
-    failed = [it for it in own.values() if re.match(r"(not proved|no proof)\b", it)]
-    for it in failed:
-        others = [name for name in names_in(it) if not is_own(crate, function, name)]
+    failed = [item for item in own.values() if re.match(r"(not proved|no proof)\b", item)]
+    for line in failed:
+        others = [name for name in names_in(line) if not is_own(crate, function, name)]
         # with no goal named, what failed is the call of another
-        if all(is_sound(crate, edited, name, lines) for name in others) and (not others or has_open_goal or OWN_GOAL.search(it)):
+        if all(is_sound(crate, edited, name, lines) for name in others) and (
+            not others or has_open_goal or OWN_GOAL.search(line)
+        ):
             return "refused"
     return "proved" if PASSED.match(lines.get(f"{crate.name}::{path}", "")) and not failed else "unsettled"
 
@@ -463,9 +510,9 @@ def unread(line, changed):
 
 def told_by_names_alone(lines):
     """All that a check's lines tell is that proof files name what an edit took away: this says little of the contract."""
-    told = [it for it in lines if NOTE.match(it)]
-    told = [it for it in told if ": error" in it or it.startswith("note: ")] or told
-    return bool(told) and all(NAMES.match(it) for it in told)
+    told = [line for line in lines if NOTE.match(line)]
+    told = [line for line in told if ": error" in line or line.startswith("note: ")] or told
+    return bool(told) and all(NAMES.match(line) for line in told)
 
 
 def line_at(text, at):
@@ -475,7 +522,7 @@ def line_at(text, at):
 
 def own_lines(crate, path, text, file, lines):
     """The lines of a check that tell of places in an edited function's body, or in its own proof files."""
-    here = [it for it in functions_of(file, text, crate.types) if it.path == path]
+    here = [function for function in functions_of(file, text, crate.types) if function.path == path]
     folder = "proofs/" + path.replace("::", "/") + "/"
     found = []
     for line in lines:
@@ -484,11 +531,13 @@ def own_lines(crate, path, text, file, lines):
             continue
         if at[1].startswith(folder):
             found.append(line)
-        elif at[1] == file and any(line_at(text, it.head) <= int(at[2]) <= line_at(text, it.end) for it in here):
+        elif at[1] == file and any(
+            line_at(text, function.head) <= int(at[2]) <= line_at(text, function.end) for function in here
+        ):
             found.append(line)
     return found
 
 
 def has_open_goal(lines):
     """A check's lines tell of a goal that is not proved."""
-    return any(re.match(r"note: \S+:\d+:\d+: it is not proved that ", it) for it in lines)
+    return any(re.match(r"note: \S+:\d+:\d+: it is not proved that ", line) for line in lines)

@@ -10,16 +10,16 @@ TOP = pathlib.Path(__file__).resolve().parent.parent
 def create(folder: str | pathlib.Path, crates: dict[str, tuple], scripts: Iterable[str]) -> pathlib.Path:
     """Makes a repository of these crates, each with the crates that it uses and the text of its root, by its name."""
     top = pathlib.Path(folder)
-    for it in scripts:
-        (top / it).parent.mkdir(parents=True, exist_ok=True)
-        shutil.copy(TOP / it, top / it)
+    for script in scripts:
+        (top / script).parent.mkdir(parents=True, exist_ok=True)
+        shutil.copy(TOP / script, top / script)
     (top / "crates.txt").write_text("".join(f"{name}: {' '.join(uses)}\n" for name, (uses, _) in crates.items()))
     (top / "HANDLES").write_text("Handles allowed: none.\n")
     for name, (_, text) in crates.items():
-        for it in ("src", "specs", "proofs"):
-            (top / f"crates/{name}/{it}").mkdir(parents=True)
-        for it in ("specs", "proofs"):
-            (top / f"crates/{name}/{it}/Lib.antt").write_text("")
+        for word in ("src", "specs", "proofs"):
+            (top / f"crates/{name}/{word}").mkdir(parents=True)
+        for word in ("specs", "proofs"):
+            (top / f"crates/{name}/{word}/Lib.antt").write_text("")
         root_of(top, name, "fn main" in text).write_text(text)
     return top
 

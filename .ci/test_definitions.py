@@ -1,9 +1,9 @@
 """Tests of the page on what is trusted, and of the definitions that are reached, over made-up crates."""
 
 import pytest
+import trusted
 
 import definitions
-import trusted
 
 SHAPES = """-- Shapes.
 use Rattle.std.specs.Prelude.{ℕ, Bool}
@@ -186,8 +186,7 @@ def test_what_a_definition_names_is_reached(repository):
         reach_of(repository, "low", "Shapes", name) for name in ("count", "chained", "Box", "unused", "sized")
     )
     renamed, module, again, field = (
-        reach_of(repository, "high", "High", name)
-        for name in ("by_another_name", "by_its_module", "taken_over", "by_a_field")
+        reach_of(repository, "high", "High", name) for name in ("by_another_name", "by_its_module", "taken_over", "by_a_field")
     )
     assert titles(count) == {"count", "Shape"} and count.libraries == {"std"}
     assert titles(chained) == {"chained", "◌>>=◌", "Shape"}
@@ -196,8 +195,8 @@ def test_what_a_definition_names_is_reached(repository):
     assert titles(module) == {"by_its_module", "two"}
     assert titles(again) == {"taken_over", "count", "Shape"}
     assert titles(field) == {"by_a_field", "Box", "Shape", "two"}
-    assert titles(box) == {"Box", "Shape", "two"} and {it.name for it in box.types} == {"Word"}
-    assert {it.name for it in sized.types} == {"Size", "Unit"}
+    assert titles(box) == {"Box", "Shape", "two"} and {each_type.name for each_type in box.types} == {"Word"}
+    assert {each_type.name for each_type in sized.types} == {"Size", "Unit"}
 
 
 def test_the_clauses_of_a_function_are_followed(repository):
@@ -205,7 +204,7 @@ def test_the_clauses_of_a_function_are_followed(repository):
     first, both = (repository.reach(repository.of_function(pen, "write", names)) for names in (("first",), ()))
     assert titles(first) == {"unused", "by_its_module", "two"}
     assert titles(both) == titles(first) | {"chained", "◌>>=◌", "Shape"}
-    assert {it.name for it in first.types} == {"Size", "Unit", "Word"}
+    assert {each_type.name for each_type in first.types} == {"Size", "Unit", "Word"}
 
 
 @pytest.mark.parametrize(
@@ -220,7 +219,7 @@ def test_the_clauses_of_a_function_are_followed(repository):
 )
 def test_a_facade_is_followed_and_counts_as_imports(repository, clause, names, types):
     reach = repository.reach(repository.of_function(repository.crates / "high/src/draw.rt", "draw", [clause]))
-    assert titles(reach) == names and {it.name for it in reach.types} >= types
+    assert titles(reach) == names and {each_type.name for each_type in reach.types} >= types
     assert all(item.file.name == "Shapes.antt" for item in reach.items)
     assert not definitions.said(repository.crates / "low/specs/Prelude.antt")
 
@@ -257,6 +256,13 @@ def test_all_lines_of_definitions_are_in_one():
     for path in trusted.TOP.glob("crates/*/specs/*.antt"):
         assert sum(len(item.lines) for item in repository.items(path)) == len(definitions.said(path)), path
         assert all(item.names for item in repository.items(path)), path
+
+
+@pytest.mark.parametrize("port", trusted.PORTS_ADD, ids=lambda port: port.name)
+def test_the_page_of_proofs_has_the_lines_of_each_port(port: trusted.Port):
+    text = (trusted.TOP / "docs/PROOFS.md").read_text(encoding="utf-8")
+    begins = f"- {port.name}: {trusted.port_lines(port)} lines. "
+    assert [line.strip().startswith(begins) for line in text.splitlines()].count(True) == 1
 
 
 def test_the_page_on_what_is_trusted_is_current():

@@ -25,7 +25,7 @@ KINDS = {
 MEMBERS = r'(?:object_of|has_only|top_names version =|row_names Wide =) ?\(?((?:codes "\w+" ∷ )+|member ∷ )(\[\]|\w+ version)'
 # how a member is read that may be left out
 LEFT_OUT = (
-    r'(?:\w+_or_\w+(?: journal)?|else_at inner|claim_name|note_at) \(get \(codes "(\w+)"\)',
+    r'(?:\w+_or_\w+(?: journal)?|else_at inner|claim_name|note_at) \(get \(codes "(\$?\w+)"\)',
     r'texts_in \(codes "(\w+)"\)',
     r'start = get \(codes "(\w+)"\)',
 )
@@ -45,7 +45,7 @@ def definitions(path):
 
 def words(text):
     """The names that stand in a definition."""
-    return set(re.findall(r'codes "(\w+)"', text))
+    return set(re.findall(r'codes "(\$?\w+)"', text))
 
 
 def added(kind):
@@ -110,22 +110,22 @@ def schema_of(kind):
 
 @pytest.mark.parametrize("kind", KINDS)
 def test_schema_has_the_members(kind):
-    objects = [it for it in schema_of(kind) if "properties" in it]
-    assert {frozenset(it["properties"]) for it in objects} == forms(kind)
-    assert all(it["additionalProperties"] is False for it in objects)
+    objects = [form for form in schema_of(kind) if "properties" in form]
+    assert {frozenset(each_object["properties"]) for each_object in objects} == forms(kind)
+    assert all(each_object["additionalProperties"] is False for each_object in objects)
 
 
 @pytest.mark.parametrize("kind", KINDS)
 def test_schema_says_what_may_be_left_out(kind):
-    for it in schema_of(kind):
-        if "properties" in it:
-            assert set(it["properties"]) - set(it["required"]) == set(it["properties"]) & left_out(kind)
+    for form in schema_of(kind):
+        if "properties" in form:
+            assert set(form["properties"]) - set(form["required"]) == set(form["properties"]) & left_out(kind)
 
 
 @pytest.mark.parametrize("kind", KINDS)
 def test_schema_has_the_words(kind):
     said = schema_of(kind)
-    assert {word for it in said for word in [it.get("const"), *it.get("enum", [])] if word} == single_words(kind)
+    assert {word for name in said for word in [name.get("const"), *name.get("enum", [])] if word} == single_words(kind)
 
 
 def test_schema_says_what_version_3_adds():
@@ -145,8 +145,8 @@ def test_schema_says_what_version_3_adds_to_trees():
     assert is_worded_in_third_only() and schema()["$defs"]["older_tree"]["type"] == "object"
     assert older["rows"]["items"]["properties"] == dict.fromkeys(third_rows(), False)
     inner = {name for name, said in older.items() if said == {"$ref": "#/$defs/older_tree"}}
-    objects = [it["properties"] for it in schema_of("tree") if "properties" in it]
-    assert inner == {name for it in objects for name in it if is_tree(it[name])}
+    objects = [form["properties"] for form in schema_of("tree") if "properties" in form]
+    assert inner == {name for each_object in objects for name in each_object if is_tree(each_object[name])}
 
 
 def is_tree(said):
@@ -211,7 +211,7 @@ def page_forms(kind):
     """The members of each form of the kind, in version 3, as the page has them."""
     if kind in ("top", "start"):
         cells = rows(section(kind.capitalize() if kind == "start" else "The top"), "Member")
-        return {frozenset(re.match(r"`(\w+)`", row[0].strip("| "))[1] for row in cells)}
+        return {frozenset(re.match(r"`(\$?\w+)`", row[0].strip("| "))[1] for row in cells)}
     if kind == "token":
         return {keys(re.search(r"\{[^}]*\}", rows(section("The top"), "Member")[2][1])[0])}
     if kind == "task":
@@ -227,7 +227,7 @@ def page_forms(kind):
     if kind == "row":
         return {frozenset(re.findall(r"`(\w+)`", re.search(r"(?m)^A row has [^.]*", section("Trees"))[0]))}
     text = section("Trees") if kind == "tree" else " ".join(row[0] for row in rows(*TABLES[kind]))
-    return {keys(it) for it in re.findall(r"`(\{[^`]*\})`", text)}
+    return {keys(match) for match in re.findall(r"`(\{[^`]*\})`", text)}
 
 
 TABLES = {
@@ -249,7 +249,7 @@ def test_page_has_the_words(kind):
 
 def marked(cells):
     """The first name of each row that is marked with version 3."""
-    return {re.search(r"\w+", row[0])[0] for row in cells if "(version 3)" in row[0]}
+    return {re.search(r"\$?\w+", row[0])[0] for row in cells if "(version 3)" in row[0]}
 
 
 def test_page_says_what_version_3_adds():
@@ -276,7 +276,7 @@ def table():
     arms = text.partition("fn row")[2].partition("fn names")[0]
     found = {}
     for name, needs, adds, listing in re.findall(r"Form::(\w+) => \((\d+), (\w+), &(\[[^\]]*\]|\w+)\)", arms):
-        names = re.findall(r'"(\w+)"', lists.get(listing, listing))
+        names = re.findall(r'"(\$?\w+)"', lists.get(listing, listing))
         found[name] = names, int(needs), len(names) if adds == "ALL" else int(adds)
     assert len(found) == arms.count("Form::")
     return {name: row for name, row in found.items() if name not in MORE_FORMS}

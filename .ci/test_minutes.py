@@ -1,7 +1,6 @@
 """Tests of the sums of processor minutes: which part a process works for, and the table."""
-import pytest
-
 import minutes
+import pytest
 
 PROCESSES = [
     ("/kit/bin/rattle build --crate-name a src/lib.rt", "/top/crates/a", "other", "proofs"),
@@ -13,6 +12,14 @@ PROCESSES = [
     ("/tmp/rt-run-x/bin/a", "/tmp/rt-run-x/data", "other", "programs"),
     ("/usr/bin/python3 -B -m pytest -q cases/test_run.py --program crates/a/out/a", "/top", "other", "cases"),
     ("python3 -B -m pytest .ci/test_build.py", "/top", "other", "cases"),
+    ("python3 -B /top/.ci/compile sessions", "/top", "other", "cases"),
+    ("/top/tests/sessions/out/unproved", "/top/tests/sessions/data", "other", "cases"),
+    ("/usr/bin/python3 -B ports/try wasm crates/a/out/a", "/top", "other", "other systems"),
+    ("/usr/bin/python3 -B -m pytest -q ports/test_ports.py ports/test_proved.py", "/top", "other", "other systems"),
+    ("/usr/bin/python3 -B -m pytest -q cases/test_page.py --program crates/a/out/a", "/top", "other", "other systems"),
+    ("/usr/bin/python3 -B -m pytest -q cases/test_pages.py --program crates/a/out/a", "/top", "other", "cases"),
+    ("/usr/bin/python3 -B -m pytest -q dist/test_archives.py --program crates/a/out/a", "/top", "other", "other systems"),
+    ("rattle build --crate-name a src/main.rt", "/top/crates/a", "other systems", "other systems"),
     ("rattle check --crate-name a src/lib.rt", "/tmp/build-x", "cases", "cases"),
     ("crates/a/out/a check", "/top", "cases", "cases"),
 ]

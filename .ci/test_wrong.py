@@ -3,9 +3,9 @@ import threading
 import time
 
 import pytest
+import wrong
 
 import edits
-import wrong
 from edits import BadEdit
 
 
@@ -94,31 +94,52 @@ def crate():
 
 
 def edit(name, old, new, file="src/pair.rt"):
-    return edits.parse(name, f"file: {file}\nold: {old}\nnew: {new}\n")
+    return edits.Edit(name, (edits.Change(file, old, new),))
 
 
 def lines(*told):
-    return edits.lines_of("".join(f"fn two::{it}\n" for it in told))
+    return edits.lines_of("".join(f"fn two::{line}\n" for line in told))
 
 
-class TestRead:
-    def test_pairs(self):
-        made = edits.parse("a", "file: src/a.rt\nold: x\nnew: y\nfile: specs/B.antt\nold:   z \nnew:\n")
-        assert made.changes == (("src/a.rt", "x", "y"), ("specs/B.antt", "  z ", ""))
+class TestTables:
+    def test_one_change(self):
+        good, bad = edits.edits_in("[a]\nfile = 'src/a.rt'\nold = 'x'\nnew = ''\n")
+        assert (good, bad) == ([edits.Edit("a", (("src/a.rt", "x", ""),))], {})
 
-    def test_no_pair(self):
-        for text in ("", "file: src/a.rt\n", "file: src/a.rt\nold: x\n", "old: x\nnew: y\n", "file: src/a.rt\nnew: y\n"):
-            with pytest.raises(BadEdit):
-                edits.parse("a", text)
+    def test_many_changes(self):
+        text = "[a]\nchanges = [{file = 'src/a.rt', old = 'x', new = 'y'}, {file = 'specs/B.antt', old = '  z ', new = ''}]\n"
+        good, bad = edits.edits_in(text)
+        assert (good, bad) == ([edits.Edit("a", (("src/a.rt", "x", "y"), ("specs/B.antt", "  z ", "")))], {})
+        told = "file: src/a.rt\nold: x\nnew: y\nfile: specs/B.antt\nold:   z \nnew: \n"
+        assert edits.must_fail_text(good[0]) == told
 
-    def test_two_olds(self):
-        with pytest.raises(BadEdit):
-            edits.parse("a", "file: src/a.rt\nold: x\nold: y\nnew: z\n")
+    def test_the_others_stay_good(self):
+        text = "[a]\nfile = 'src/a.rt'\nold = 'x'\nnew = 'y'\n[b]\nfile = 'src/a.rt'\nold = 'x'\n"
+        good, bad = edits.edits_in(text)
+        assert ([edit.name for edit in good], list(bad)) == (["a"], ["b"])
 
-    def test_files_outside(self):
-        for file in ("out/a.rt", "../a/src/a.rt", "src/../a.rt", "/src/a.rt"):
-            with pytest.raises(BadEdit):
-                edits.parse("a", f"file: {file}\nold: x\nnew: y\n")
+    @pytest.mark.parametrize(
+        "table",
+        [
+            "file = 'src/a.rt'\nold = ''\nnew = 'y'",
+            "file = 'src/a.rt'\nold = 'x\\ny'\nnew = 'y'".replace("'x\\ny'", '"x\\ny"'),
+            "file = 'src/a.rt'\nold = 'x'\nnew = 1",
+            "file = 'src/a.rt'\nold = 'x'\nnew = 'y'\nwhy = 'z'",
+            "file = 'out/a.rt'\nold = 'x'\nnew = 'y'",
+            "file = 'src/../a.rt'\nold = 'x'\nnew = 'y'",
+            "changes = []",
+            "changes = 'x'",
+            "changes = ['x']",
+            "changes = [{file = 'src/a.rt', old = 'x', new = 'y'}]\nfile = 'src/a.rt'",
+        ],
+    )
+    def test_no_change(self, table):
+        good, bad = edits.edits_in(f"[a]\n{table}\n")
+        assert (good, list(bad)) == ([], ["a"])
+
+    def test_names(self):
+        good, bad = edits.edits_in("['a.b']\nfile = 'src/a.rt'\nold = 'x'\nnew = 'y'\n")
+        assert (good, list(bad)) == ([], ["a.b"])
 
 
 class TestApply:
@@ -179,19 +200,21 @@ class TestPlaces:
         assert (wide.path, text[wide.at : wide.end]) == ("wide", "{\n    it\n}")
 
     def test_a_method_of_a_trait_has_no_body(self):
-        text = "trait Same {\n    fn same(&self) -> bool\n        ensures { result };\n}\n\nfn all() -> bool {\n    if true {\n    }\n    true\n}\n"
-        assert [it.path for it in edits.functions_of("src/lib.rt", text)] == ["all"]
+        text = "trait Same {\n    fn same(&self) -> bool\n        ensures { result };\n}\n\n"
+        text += "fn all() -> bool {\n    if true {\n    }\n    true\n}\n"
+        assert [function.path for function in edits.functions_of("src/lib.rt", text)] == ["all"]
 
     def test_outside_of_bodies(self):
         for old in ("MOST: u8 = 9", "    first: u8,", "self.now.first < 9", "result ≡", "pub fn both", "use crate::other"):
             assert crate().places(edit("a", old, "x")) is None
 
-    def test_pairs_after_one_another(self):
-        text = "file: src/pair.rt\nold: self.first()\nnew: (self).first()\nold: _self.first\nnew: 1\n"
-        assert crate().places(edits.parse("a", text)) is None
-        # the second text is in one place once the first pair is applied
-        text = "file: src/pair.rt\nold: n == 0 || odd(n - 1)\nnew: n == 0 || odd(n)\nold: n - 1\nnew: n\n"
-        assert crate().places(edits.parse("a", text)) == {"pair::even", "pair::odd"}
+    def test_changes_after_one_another(self):
+        def places(*changes):
+            return crate().places(edits.Edit("a", tuple(edits.Change("src/pair.rt", old, new) for old, new in changes)))
+
+        assert places(("self.first()", "(self).first()"), ("_self.first", "1")) is None
+        # the second text is in one place once the first change is applied
+        assert places(("n == 0 || odd(n - 1)", "n == 0 || odd(n)"), ("n - 1", "n")) == {"pair::even", "pair::odd"}
 
 
 PROOF = """use Rattle.two.proofs.pair.Pair.first.Statement as stated
@@ -265,11 +288,11 @@ class TestTwins:
         made = trial.make_twins(given, set())
         assert trial.places == {"a": {"pair::alone_twin_1"}, "b": {"pair::alone_twin_2"}, "c": {"pair::odd"}}
         assert sorted(trial.unedited) == ["pair::alone_twin_0"]
-        assert trial.twins == {f"pair::alone_twin_{it}" for it in range(3)}
+        assert trial.twins == {f"pair::alone_twin_{number}" for number in range(3)}
         assert len(edits.next_round(trial.crate, made, trial.places)[0]) == 3
         trial.known(trial.texts)
         trial.make_twins(given, {"pair::alone"})
-        assert [sorted(it) for it in trial.places.values()] == [["pair::alone"], ["pair::alone"], ["pair::odd"]]
+        assert [sorted(place) for place in trial.places.values()] == [["pair::alone"], ["pair::alone"], ["pair::odd"]]
 
 
 class TestCycles:
@@ -291,7 +314,7 @@ fn asks(n: u8) -> bool {
     def test_one_proof_is_no_place_for_two_edits(self):
         made = edits.Crate("two", {"src/lib.rt": self.TEXT})
         given = [edit("a", "n == 0", "n == 1", "src/lib.rt"), edit("b", "    odd(n)", "    !odd(n)", "src/lib.rt")]
-        places = {it.name: made.places(it) for it in given}
+        places = {fact.name: made.places(fact) for fact in given}
         assert places == {"a": {"even"}, "b": {"asks"}}
         # what asks calls is proved together with what is edited
         assert made.reach("asks") == {"even", "odd"}
@@ -312,11 +335,11 @@ class TestFirstRound:
         left, asked = list(answers), []
 
         def check(texts, words):
-            asked.append({it for it in words if "::" in it})
+            asked.append({word for word in words if "::" in word})
             told = left.pop(0)
             if told is None:
                 return "rattle: error: what is this\n", 1
-            known = [f"fn two::{it}: {told.get(it, 'proved')}\n" for it in sorted(asked[-1])]
+            known = [f"fn two::{path}: {told.get(path, 'proved')}\n" for path in sorted(asked[-1])]
             return "".join(known) + "only=1 holes=1\n", 1
 
         made.check = check
@@ -325,19 +348,19 @@ class TestFirstRound:
     def test_the_unedited_are_tried_beside_the_edited(self):
         trial, asked = self.trial({"pair::alone_twin_1": self.OPEN, "pair::alone_twin_2": self.OPEN})
         left, why, unknown = trial.begin(self.GIVEN)
-        assert (asked, why, unknown) == ([{*(f"pair::alone_twin_{it}" for it in range(3)), "pair::odd"}], None, set())
-        assert (trial.said, [it.name for it in left]) == ({"a": "refused", "b": "refused"}, ["c"])
+        assert (asked, why, unknown) == ([{*(f"pair::alone_twin_{number}" for number in range(3)), "pair::odd"}], None, set())
+        assert (trial.said, [edit.name for edit in left]) == ({"a": "refused", "b": "refused"}, ["c"])
 
     def test_what_is_proved_with_an_edit_is_tried_alone(self):
         trial, _ = self.trial({"pair::alone_twin_1": self.OPEN})
         left, why, _ = trial.begin(self.GIVEN)
-        assert (why, trial.passed, [it.name for it in left]) == (None, {"b"}, ["b", "c"])
+        assert (why, trial.passed, [edit.name for edit in left]) == (None, {"b"}, ["b", "c"])
 
     def test_a_twin_that_is_not_proved_unedited_settles_nothing(self):
-        told = {f"pair::alone_twin_{it}": self.OPEN for it in range(3)}
+        told = {f"pair::alone_twin_{number}": self.OPEN for number in range(3)}
         trial, asked = self.trial(told, {})
         left, why, _ = trial.begin(self.GIVEN)
-        assert (why, trial.said, [it.name for it in left]) == (None, {}, ["a", "b", "c"])
+        assert (why, trial.said, [edit.name for edit in left]) == (None, {}, ["a", "b", "c"])
         assert asked[1] == {"pair::alone", "pair::odd"}
 
     def test_a_function_that_is_not_proved_unedited_ends_the_trial(self):
@@ -352,7 +375,7 @@ class TestFirstRound:
         assert trial.said == dict.fromkeys("abc", "refused")
 
     def test_beside_rt_ci_a_twin_with_proof_files_needs_one(self, beside):
-        given = [edit(it, "        self.first", f"        self.{it}") for it in ("second", "third")] + [self.GIVEN[1]]
+        given = [edit(word, "        self.first", f"        self.{word}") for word in ("second", "third")] + [self.GIVEN[1]]
         trial, asked = self.trial({"pair::Pair::first_twin_0": "not proved", "pair::alone_twin_1": self.OPEN}, {})
         trial.texts["proofs/pair/Pair/first/Proof.antt"] = PROOF
         beside.file = "log"
@@ -392,10 +415,10 @@ class TestBeside:
         beside = wrong.Beside()
         beside.file = tmp_path / "log"
         told = ["tpl_one proved", "tpl_two is kept: an earlier run proved the same files", "tpl_three not proved"]
-        beside.file.write_text("".join(f"rt: {it}\n" for it in told), encoding="utf-8")
+        beside.file.write_text("".join(f"rt: {line}\n" for line in told), encoding="utf-8")
         assert (beside.is_over(), beside.wait_for(["tpl_one", "tpl_two"])) == (False, set())
-        with open(beside.file, "a", encoding="utf-8") as it:
-            it.write(f"2 passed, 1 failed\n{wrong.ENDED}\n")
+        with open(beside.file, "a", encoding="utf-8") as file:
+            file.write(f"2 passed, 1 failed\n{wrong.ENDED}\n")
         assert (beside.is_over(), beside.wait_for(["tpl_one", "tpl_three"])) == (True, {"tpl_three"})
 
     def test_half_the_lanes(self, beside):
@@ -414,13 +437,13 @@ class TestBeside:
                 order.append(rank)
 
         with lanes:
-            others = [threading.Thread(target=enter, args=[it]) for it in (2, 1)]
-            for it in others:
-                it.start()
+            others = [threading.Thread(target=enter, args=[number]) for number in (2, 1)]
+            for other in others:
+                other.start()
             while len(lanes.waiting) < 2:
                 time.sleep(0.01)
-        for it in others:
-            it.join()
+        for other in others:
+            other.join()
         assert order == [1, 2]
 
     def test_what_is_not_settled_in_time_is_put_off(self, monkeypatch):
@@ -451,9 +474,9 @@ class TestBeside:
 class TestRounds:
     def chosen(self, *given):
         made = crate()
-        places = {it.name: made.places(it) for it in given}
+        places = {fact.name: made.places(fact) for fact in given}
         chosen, texts = edits.next_round(made, list(given), places)
-        return [it.name for it in chosen], texts
+        return [edit.name for edit in chosen], texts
 
     def test_one_a_function(self):
         assert self.chosen(edit("a", "    3", "    4"), edit("b", "3\n".strip(), "5"))[0] == ["a"]
@@ -561,22 +584,22 @@ class TestTold:
     def test_proofs_of_others_stay(self):
         # a function and a module of one name
         sources = {"src/lib.rt": "fn pair() {}\n\nfn same() {}\n", "src/pair.rt": "fn first() {}\n"}
-        proofs = {f"proofs/{it}/Answers.antt": "a" for it in ("pair", "pair/first", "pair/+cycle", "same")}
+        proofs = {f"proofs/{word}/Answers.antt": "a" for word in ("pair", "pair/first", "pair/+cycle", "same")}
         made = wrong.with_holes(edits.Crate("two", {**sources, **proofs}), {**sources, **proofs}, {"pair"})
-        gone = {it for it in proofs if it not in made}
+        gone = {proof for proof in proofs if proof not in made}
         assert gone == {"proofs/pair/Answers.antt"}
 
     def test_no_hole_where_a_function_calls_itself(self):
         text = "fn again(n: u8) -> u8 {\n    again(n)\n}\n\nfn once(n: u8) -> u8 {\n    again(n)\n}\n"
         made, of_cycle = edits.Crate("two", {"src/lib.rt": text}), crate()
         made.has_stubs = of_cycle.has_stubs = False
-        assert [made.takes_hole(it) for it in ("again", "once", "none")] == [False, True, False]
+        assert [made.takes_hole(word) for word in ("again", "once", "none")] == [False, True, False]
         assert not of_cycle.takes_hole("pair::even")
 
     def test_a_hole_for_each_that_has_no_body(self):
         text = "impl Drop for Pair {\n    fn drop(self) {\n        let Pair(_) = self;\n    }\n}\n"
         made = edits.Crate("two", {"src/lib.rt": text})
-        assert [crate().takes_hole(f"pair::{it}") for it in ("even", "Pair::first", "nowhere")] == [True, True, False]
+        assert [crate().takes_hole(f"pair::{word}") for word in ("even", "Pair::first", "nowhere")] == [True, True, False]
         assert not made.takes_hole("PairDrop::drop")
 
     def test_proofs_of_a_cycle_go_with_all_its_functions(self):

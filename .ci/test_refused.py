@@ -1,4 +1,4 @@
-"""Tests of the lists of wrong bodies that were refused already, with the prover: over a repository with one small crate."""
+"""Tests of the list of wrong bodies that were refused already, with the prover: over a repository with one small crate."""
 import os
 import re
 import subprocess
@@ -6,7 +6,7 @@ import sys
 
 from small_repository import called, create, git, root_of
 
-SCRIPTS = (".ci/crates.py", ".ci/edits.py", ".ci/kept.py", ".ci/wrong", ".ci/wrong.py")
+SCRIPTS = (".ci/crates.py", ".ci/edits.py", ".ci/refused.py", ".ci/wrong")
 EXACT, WIDE = "ensures { result ≡ 1 }", "ensures { result ≤ 9 }"
 SOURCE = f"""//! A number.
 #![tactic(auto)]
@@ -21,7 +21,7 @@ pub fn one() -> u64
     answer
 }}
 """
-EDIT = "file: src/lib.rt\nold: let answer: u64 = 1;\nnew: let answer: u64 = 2;\n"
+EDIT = "file = 'src/lib.rt'\nold = 'let answer: u64 = 1;'\nnew = 'let answer: u64 = 2;'\n"
 
 
 class Repository:
@@ -29,10 +29,8 @@ class Repository:
 
     def __init__(self, folder, edits):
         self.top = create(folder, {"one": ((), SOURCE)}, SCRIPTS)
-        self.wrong = self.top / "crates/one/wrong"
-        self.wrong.mkdir()
-        for it in edits:
-            (self.wrong / it).write_text(EDIT)
+        self.list = self.top / ".ci/refused.txt"
+        (self.top / "crates/one/wrong.toml").write_text("".join(f"[{edit}]\n{EDIT}" for edit in edits))
 
     def write(self, source):
         root_of(self.top, "one").write_text(source)
@@ -56,13 +54,13 @@ def printed(top, words):
 
 def samples(top, edits):
     """Which of these edits are tried although they are kept."""
-    return printed(top, f"import kept; print(*(it for it in {edits!r} if kept.is_in_sample('one', it)))").split()
+    return printed(top, f"import refused; print(*(it for it in {edits!r} if refused.is_in_sample('one', it)))").split()
 
 
 def test_a_contract_that_lets_an_edit_through(tmp_path):
     # (outside of a commit the sample is the same each time)
-    repository = Repository(tmp_path, ["two.edit"])
-    assert samples(tmp_path, ["two.edit"]) == []
+    repository = Repository(tmp_path, ["two"])
+    assert samples(tmp_path, ["two"]) == []
     counts, said = repository.tried("--list")
     assert counts == (1, 0, 1, 0), said
     counts, said = repository.tried("--kept")
@@ -70,11 +68,11 @@ def test_a_contract_that_lets_an_edit_through(tmp_path):
     repository.write(SOURCE.replace(EXACT, WIDE))
     counts, said = repository.tried("--kept")
     assert counts == (1, 0, 0, 1), said
-    assert "wrong one/two.edit: NOT REFUSED" in said
+    assert "wrong one/two: NOT REFUSED" in said
 
 
 def test_a_tenth_is_tried(tmp_path):
-    edits = [f"two_{number}.edit" for number in range(100)]
+    edits = [f"two_{number}" for number in range(100)]
     repository = Repository(tmp_path, edits)
     repository.commit()
     chosen = samples(tmp_path, edits)
@@ -84,11 +82,14 @@ def test_a_tenth_is_tried(tmp_path):
     assert samples(tmp_path, edits) != chosen
 
 
+ASK = "import edits, refused; edit = edits.edits_of('one')[0][0]; "
+
+
 def test_comments_are_not_summed(tmp_path):
-    repository = Repository(tmp_path, ["two.edit"])
+    repository = Repository(tmp_path, ["two"])
 
     def checksum():
-        return printed(tmp_path, "import kept; print(kept.checksum('one', 'two.edit'))")
+        return printed(tmp_path, ASK + "print(refused.checksum('one', edit))")
 
     before = checksum()
     repository.write(SOURCE.replace("/// One.", "/// The number one."))
@@ -98,7 +99,16 @@ def test_comments_are_not_summed(tmp_path):
 
 
 def test_a_list_that_does_not_fit(tmp_path):
-    repository = Repository(tmp_path, ["two.edit"])
-    for line in ("two.edit 0123\n", "other.edit 0123\n", ""):
-        (repository.wrong / "refused.txt").write_text(line)
-        assert printed(tmp_path, "import kept; print(kept.kept('one', ['two.edit']))") == "set()\n"
+    repository = Repository(tmp_path, ["two"])
+    for line in ("one two 0123\n", "one other 0123\n", ""):
+        repository.list.write_text(line)
+        assert printed(tmp_path, ASK + "print(refused.kept('one', [edit]))") == "set()\n"
+
+
+def test_two_lists_that_git_has_put_together(tmp_path):
+    repository = Repository(tmp_path, ["two"])
+    checksum = printed(tmp_path, ASK + "print(refused.checksum('one', edit))").strip()
+    repository.list.write_text(f"one two 0123\none two {checksum}\nother two 4567\n")
+    assert printed(tmp_path, ASK + "print(refused.kept('one', [edit]))") == "{'two'}\n"
+    printed(tmp_path, ASK + "refused.write('one', [edit])")
+    assert repository.list.read_text() == f"one two {checksum}\nother two 4567\n"
