@@ -1,3 +1,4 @@
 pub mod GivenOptions
 pub mod Lines
 pub mod Commands
+pub mod BoxLemmas

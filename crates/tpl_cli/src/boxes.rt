@@ -1,6 +1,7 @@
 //! The boxes of a document's work statements.
 
 ghost use Rattle.std.specs.Prelude.{◌≡◌, false, All};
+ghost use Rattle.tpl_cli.specs.Prelude.{ServesBoxes};
 ghost use Rattle.tpl_commands.specs.Prelude.{RequestsTokens};
 ghost use Rattle.tpl_graph.specs.Prelude.{Fits};
 ghost use Rattle.tpl_reader.specs.Prelude.{doc_of};
@@ -40,7 +41,8 @@ fn answer_of(document: &Document, site: SiteId, may_fail: bool) -> Answer
 }
 
 /// Makes one box for each work statement, which answers `Failed` exactly where `start.fail` names it, and makes the run
-/// of the document with them, which is told so.
+/// of the document with them, which is told so. Where there is no memory for the boxes, the line `out of memory` stands
+/// alone.
 pub fn run_boxes<R: Threads + Wait + Sync, O: Write, F: Follow>(
     rt: &R,
     alloc: Global,
@@ -52,22 +54,26 @@ pub fn run_boxes<R: Threads + Wait + Sync, O: Write, F: Follow>(
     requires told { IsToldOf telling (doc_of document.now) }
     requires claims { All (Fits document.now.graph.graph) document.now.claims.items }
     requires tokens { RequestsTokens (doc_of document.now) }
+    ensures { ServesBoxes telling.entry (doc_of document.now) crew.entry.workers
+        O.contents to.old to.new result }
 {
+    let sites = document.graph.site_count();
     let mut items: Vec<WorkItem<Stamp>> = Vec::new(alloc);
-    for number in 0..document.graph.site_count() {
+    for number in 0..sites {
         let site = SiteId(number as u16);
         let may_fail = document.graph.site_may_fail(site);
         let answer = answer_of(document, site, may_fail);
         let Ok(work) = Box::new(alloc, move |_site: SiteId| -> Answer { answer }) else {
-            return put_out_of_memory(to);
+            break;
         };
         let work: Work = work;
-        if items
-            .push(WorkItem::new(Stamp, site, may_fail, work))
-            .is_err()
-        {
-            return put_out_of_memory(to);
+        let item = WorkItem::new(Stamp, site, may_fail, work);
+        if items.push(item).is_err() {
+            break;
         }
+    }
+    if items.len() < sites {
+        return put_out_of_memory(to);
     }
     serve_run_followed(rt, alloc, telling, document, items, crew, to)
 }

@@ -37,16 +37,17 @@ mod tips;
 mod usage;
 mod why;
 
-ghost use Rattle.std.specs.Prelude.{◌<◌, ◌≤◌, IfOk, All};
-ghost use Rattle.tpl_cli.specs.Prelude.{AreThreads, IsWithin};
+ghost use Rattle.std.specs.Prelude.{◌≡◌, ◌<◌, ◌≤◌, IfOk, IfSome, All};
+ghost use Rattle.tpl_cli.specs.Prelude.{AreThreads, Does, IsWithin, RefutesDocument, RunsDocument, ServesBoxes, TellsAs, TracesDocument, VerifiesAs, VerifiesDocument};
 ghost use Rattle.tpl_commands.specs.Prelude.{RequestsTokens};
+ghost use Rattle.tpl_each.specs.Prelude.{RespondsToEach};
 ghost use Rattle.tpl_graph.specs.Prelude.{Fits};
 ghost use Rattle.tpl_reader.specs.Prelude.{DocumentValue, Spells, doc_of};
 ghost use Rattle.tpl_report.specs.Prelude.{IsToldOf};
 
 use crate::boxes::run_boxes;
 use crate::devices::{Noting, say_unwritten, say_what_failed};
-use crate::line::{Line, LineFault, line_of};
+use crate::line::{Line, LineFault, Tries, line_of};
 use crate::progress::{ClaimProgress, RunProgress};
 use crate::stack::take_stack;
 use crate::why::{Teller, asks_why, say_what_is_read};
@@ -63,7 +64,7 @@ use tpl_each::{MOST_JOBS, serve_each};
 use tpl_journal::Counting;
 use tpl_model::Inputs;
 use tpl_reader::Document;
-use tpl_report::{Crew, Telling};
+use tpl_report::{Crew, Depth, Telling};
 use tpl_trace::trace_document;
 use tpl_verdicts::{OneByOne, Verification, verify_document};
 use tpl_verify::{Limits, Search, refute_document};
@@ -112,6 +113,8 @@ fn run_document<R: Threads + Wait + Sync, O: Write>(
     requires told { IsToldOf telling (doc_of document.now) }
     requires claims { All (Fits document.now.graph.graph) document.now.claims.items }
     requires tokens { RequestsTokens (doc_of document.now) }
+    ensures { ServesBoxes telling.entry (doc_of document.now) workers
+        O.contents to.old to.new result }
 {
     let inputs = document.inputs().unwrap_or(Inputs::new(0));
     let progress = RunProgress::new(rt, &document.graph, inputs);
@@ -122,7 +125,8 @@ fn run_document<R: Threads + Wait + Sync, O: Write>(
 
 /// How the run of the document that these bytes spell is told.
 fn telling_of(is_whole: bool, bytes: &[u8]) -> Telling<'_>
-    ensures { (doc : DocumentValue) → Spells bytes.now doc → IsToldOf result doc }
+    ensures told { (doc : DocumentValue) → Spells bytes.now doc → IsToldOf result doc }
+    ensures asked { TellsAs is_whole result }
 {
     if is_whole {
         Telling::Whole(bytes)
@@ -140,7 +144,10 @@ fn run<R: Threads + Wait + Sync, I: Read, O: Write>(
     is_whole: bool,
     from: &mut Counting<I>,
     to: &mut Counting<O>,
-) -> Exit {
+) -> Exit
+    ensures { RunsDocument workers is_whole I.remaining from.old from.new
+        O.contents to.old to.new result }
+{
     match load_watched(rt.alloc(), teller, from, to) {
         Ok(Loaded { document, bytes }) => {
             let telling = telling_of(is_whole, &bytes);
@@ -157,6 +164,7 @@ fn jobs_of<R: Threads>(threads: &R, asked: Option<u16>) -> usize
     requires { AreThreads asked }
     ensures some { 0 < result }
     ensures most { result ≤ MOST_JOBS }
+    ensures asked { IfSome asked (λ jobs. result ≡ jobs) }
 {
     match asked {
         Some(jobs) => usize::from(jobs),
@@ -172,6 +180,7 @@ fn threads_for<R: Threads>(rt: &HostRuntime, threads: &R, asked: Option<u16>) ->
     requires { AreThreads asked }
     ensures some { 0 < result }
     ensures most { result ≤ MOST_JOBS }
+    ensures asked { IfSome asked (λ jobs. result ≡ jobs) }
 {
     let jobs = jobs_of(threads, asked);
     if jobs > 1 {
@@ -190,12 +199,105 @@ fn answer_each<R: Threads + Sync, C: Command + Sync, I: Read, O: Write>(
     to: &mut Counting<O>,
 ) -> Exit
     requires { AreThreads jobs }
+    ensures { RespondsToEach (C.answers command.now) I.remaining from.old from.new
+        O.contents to.old to.new result }
 {
     let jobs = threads_for(rt, threads, jobs);
     serve_each(threads, command, rt.alloc(), jobs, from, to)
 }
 
-/// Answers the document that comes, and says on the standard error why the answer is what it is, where that is asked for.
+/// The search for a run in which a claim fails: of this claim or each, by so many runs and from this seed on. Where lines
+/// are asked for, the listener is told when the search for a claim has ended.
+fn search_of(claim: Option<u16>, tries: Tries, explains: bool) -> Search
+    ensures claim { result.claim ≡ claim }
+    ensures tries { (result.limits.runs ≡ tries.runs) × (result.limits.seed ≡ tries.seed) }
+    ensures explains { result.explain ≡ explains }
+{
+    let seed = u64::from(tries.seed);
+    Search::new(claim.map(usize::from), tries.runs, seed, explains)
+}
+
+/// How much is tried for each claim that is to have a verdict: so many splits, so many runs, and these from this seed on.
+fn limits_of(depth: Depth, tries: Tries) -> Limits
+    ensures depth { result.depth ≡ depth }
+    ensures tries { (result.runs ≡ tries.runs) × (result.seed ≡ tries.seed) }
+{
+    Limits::usual(depth, tries.runs, u64::from(tries.seed))
+}
+
+/// Searches the document that comes for a run in which a claim fails.
+fn refute<I: Read, O: Write>(
+    rt: &HostRuntime,
+    teller: Teller<'_>,
+    search: Search,
+    from: &mut Counting<I>,
+    to: &mut Counting<O>,
+) -> Exit
+    ensures { RefutesDocument search.claim I.remaining from.old from.new
+        O.contents to.old to.new result }
+{
+    let progress = ClaimProgress::new(rt);
+    refute_document(rt.alloc(), search, teller.of_search(), &progress, from, to)
+}
+
+/// Answers each claim of the document that comes, by several threads where there are some.
+fn verify_one<R: Threads + Sync, I: Read, O: Write>(
+    rt: &HostRuntime,
+    threads: &R,
+    teller: Teller<'_>,
+    asked: Verification,
+    from: &mut Counting<I>,
+    to: &mut Counting<O>,
+) -> Exit
+    requires { 0 < asked.jobs }
+    ensures { VerifiesDocument asked.limits.depth asked.style I.remaining from.old from.new
+        O.contents to.old to.new result }
+{
+    let (progress, teller) = (ClaimProgress::new(rt), teller.of_search());
+    verify_document(threads, rt.alloc(), asked, &progress, teller, from, to)
+}
+
+/// Answers each claim of the document that comes, or of the document on each line.
+fn verify<R: Threads + Sync, I: Read, O: Write>(
+    rt: &HostRuntime,
+    threads: &R,
+    teller: Teller<'_>,
+    command: OneByOne,
+    jobs: Option<u16>,
+    is_each: bool,
+    from: &mut Counting<I>,
+    to: &mut Counting<O>,
+) -> Exit
+    requires { AreThreads jobs }
+    ensures { VerifiesAs is_each command.limits.depth command.style I.remaining from.old from.new
+        O.contents to.old to.new result }
+{
+    if is_each {
+        return answer_each(rt, threads, &command, jobs, from, to);
+    }
+    let OneByOne { limits, style } = command;
+    let asked = Verification {
+        limits,
+        jobs: threads_for(rt, threads, jobs),
+        style,
+    };
+    verify_one(rt, threads, teller, asked, from, to)
+}
+
+/// Traces the journal of the document that comes.
+fn trace<I: Read, O: Write>(
+    rt: &HostRuntime,
+    teller: Teller<'_>,
+    from: &mut Counting<I>,
+    to: &mut Counting<O>,
+) -> Exit
+    ensures { TracesDocument I.remaining from.old from.new O.contents to.old to.new result }
+{
+    trace_document(rt.alloc(), teller, from, to)
+}
+
+/// Answers what comes as the line asks, and says on the standard error why the answer is what it is, where that is asked
+/// for.
 fn answer<R: Threads + Wait + Sync, I: Read, O: Write>(
     rt: &HostRuntime,
     threads: &R,
@@ -204,14 +306,11 @@ fn answer<R: Threads + Wait + Sync, I: Read, O: Write>(
     to: &mut Counting<O>,
 ) -> Exit
     requires { IsWithin order.now.line }
+    ensures { Does order.now.line I.remaining from.old from.new O.contents to.old to.new result }
 {
-    let alloc = rt.alloc();
     let teller = Teller::new(rt, &order.line, order.explains);
     match order.line {
-        Line::Serve(ask) => {
-            let teller = teller.of_ask(&ask);
-            serve_watched(alloc, ask, teller, from, to)
-        }
+        Line::Serve(ask) => serve_watched(rt.alloc(), ask, teller.of_ask(&ask), from, to),
         Line::Each(ask, jobs) => {
             let listener = Nobody;
             answer_each(rt, threads, &Asking { ask, listener }, jobs, from, to)
@@ -222,10 +321,8 @@ fn answer<R: Threads + Wait + Sync, I: Read, O: Write>(
             tries,
             explains,
         } => {
-            let (claim, seed) = (claim.map(usize::from), u64::from(tries.seed));
-            let search = Search::new(claim, tries.runs, seed, explains);
-            let progress = ClaimProgress::new(rt);
-            refute_document(alloc, search, teller.of_search(), &progress, from, to)
+            let search = search_of(claim, tries, explains);
+            refute(rt, teller, search, from, to)
         }
         Line::Verify {
             depth,
@@ -234,21 +331,11 @@ fn answer<R: Threads + Wait + Sync, I: Read, O: Write>(
             style,
             is_each,
         } => {
-            let limits = Limits::usual(depth, tries.runs, u64::from(tries.seed));
-            if is_each {
-                let command = OneByOne { limits, style };
-                return answer_each(rt, threads, &command, jobs, from, to);
-            }
-            let jobs = threads_for(rt, threads, jobs);
-            let asked = Verification {
-                limits,
-                jobs,
-                style,
-            };
-            let (progress, teller) = (ClaimProgress::new(rt), teller.of_search());
-            verify_document(threads, alloc, asked, &progress, teller, from, to)
+            let limits = limits_of(depth, tries);
+            let command = OneByOne { limits, style };
+            verify(rt, threads, teller, command, jobs, is_each, from, to)
         }
-        Line::Trace => trace_document(alloc, teller, from, to),
+        Line::Trace => trace(rt, teller, from, to),
     }
 }
 

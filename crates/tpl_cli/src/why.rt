@@ -1,7 +1,7 @@
 //! What is said on the standard error, for people: how far a search is, and why an answer is what it is. It changes
 //! nothing of the answer.
 
-ghost use Rattle.std.specs.Prelude.{IfOk, IfSome, All};
+ghost use Rattle.std.specs.Prelude.{◌≡◌, IfOk, IfSome, All};
 ghost use Rattle.tpl_commands.specs.Prelude.{IsFoundOf};
 ghost use Rattle.tpl_graph.specs.Prelude.{Fits};
 ghost use Rattle.tpl_reader.specs.Prelude.{Spells, doc_of};
@@ -67,7 +67,9 @@ pub(crate) struct Teller<'a> {
 
 impl<'a> Teller<'a> {
     /// Tells nothing of a search; and reasons of what this line answers, where they are asked for.
-    pub(crate) fn new(rt: &'a HostRuntime, line: &Line, explains: bool) -> Teller<'a> {
+    pub(crate) fn new(rt: &'a HostRuntime, line: &Line, explains: bool) -> Teller<'a>
+        ensures { result.explains ≡ explains }
+    {
         Teller {
             rt,
             shows: false,
@@ -77,7 +79,9 @@ impl<'a> Teller<'a> {
     }
 
     /// Tells also how far a search is, on a terminal alone.
-    pub(crate) fn of_search(self) -> Teller<'a> {
+    pub(crate) fn of_search(self) -> Teller<'a>
+        ensures { result.explains ≡ self.entry.explains }
+    {
         Teller {
             shows: self.rt.stderr().is_terminal(),
             ..self
@@ -85,7 +89,9 @@ impl<'a> Teller<'a> {
     }
 
     /// Tells what there is to tell where this is asked: of a search also how far it is.
-    pub(crate) fn of_ask(self, ask: &Ask) -> Teller<'a> {
+    pub(crate) fn of_ask(self, ask: &Ask) -> Teller<'a>
+        ensures { result.explains ≡ self.entry.explains }
+    {
         match ask {
             Ask::Analyse(_) | Ask::AnalyseIn(_, _) | Ask::Certify(_, _) => self.of_search(),
             Ask::Check | Ask::Audit | Ask::Draw(_) => self,

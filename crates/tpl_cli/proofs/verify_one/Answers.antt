@@ -1,0 +1,6 @@
+use Rattle.tpl_cli.proofs.verify_one.Goals as goal
+
+pub returns : goal.returns
+returns g c =
+    let is = c.verify_document.ensures in
+    record { responds = is.responds; reads = is.reads; judged = is.judged; verified = is.verified }
