@@ -255,7 +255,8 @@ DEAR = (
     Hostile("all ends given to many claims", ("check",), given_ends, 1, "refused: shape claim 1\n", 5, 40),
     Hostile("all jobs and tokens given to all claims", ("check",), given_words, 1, "refused: shape claim 1\n", 1_000, 24),
     Hostile("long bodies by the rules of version 3", ("check",), walked_bodies, 0, "accepted\n", 20, 50),
-    Hostile("a release of 260 tasks", ("verify", "--jobs", "1"), lambda: release(20, 10), 1, "claim 1 holds", 25_000, 24),
+    Hostile("a release of 260 tasks", ("verify", "--jobs", "1"), lambda: release(20, 10), 1, "claim 1 holds", 4_000, 24),
+    Hostile("a release of 960 tasks", ("verify", "--jobs", "1"), lambda: release(60, 13), 1, "claim 1 holds", 6_000, 24),
     Hostile("all steps of a long line", ("verify", "--jobs", "1"), steps_in_line, 0, "claim 1 holds", 15_000, 24),
     Hostile("small objects, one of them wrong", ("check", "--explain"), wrong_object, 3, "unreadable: ", 15, 130),
 )

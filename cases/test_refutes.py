@@ -4,11 +4,11 @@ A claim for which `analyse` finds a certificate is never refuted, also where all
 claims the answer is that to the first one that fails, whichever are passed over. Each claim of which a page of examples/
 shows a run in which it fails, or of which a case of `audit` says where it fails, is refuted within the runs that are tried
 unless told otherwise. The same words give the same text. Of two smallest runs each is found by some seed, and no larger one.
-Where one request does it no job fails, where no job has to fail none does, and one worker acts where one is enough. Each
-document that is written is the one that was read but for the inputs and the journal, and without what was seen of another
-run; `audit` finds a run there, and that the claim fails after its last event; and `check` refuses the document. In each run
-bodies nest, also in those of graphs that are drawn by chance; no run is found where only one that no thread makes would do;
-and a large document is answered before the time is over.
+Where one request does it no job fails, where no job has to fail none does, and one worker acts where one is enough. Of a
+release nothing is shown but what has to come before. Each document that is written is the one that was read but for the
+inputs and the journal, and without what was seen of another run; `audit` finds a run there, and that the claim fails after
+its last event; and `check` refuses the document. In each run bodies nest, also in those of graphs that are drawn by chance;
+no run is found where only one that no thread makes would do; and a large document is answered before the time is over.
 """
 import json
 import random
@@ -20,6 +20,7 @@ import pytest
 from body_nesting import unnested
 from graphs import Drawn
 from harness import Answer, Program, all_cases, cases_of, compact, examples, failing_runs
+from hostile import release
 from test_verify import worked_out
 
 FAILS = re.compile(r"claim (\d+) fails at")
@@ -138,6 +139,8 @@ ONE_WORKER = json.dumps(
     }
 )
 SMALL_SEEDS = 8
+# layers of a release, and the jobs of each
+LAYERS, WIDTH = 12, 8
 
 
 def stages(count: int, *, tokens: list, last: list, watch: list, claim: dict) -> str:
@@ -367,6 +370,21 @@ def test_one_worker_does_it(program, seed: int):
     events = journal_of(program, ONE_WORKER, seed)
     body = ["w1 begin Parent", "w1 step Parent", "w1 worked Parent done", "w1 leave Parent"]
     assert events == [*body, "w1 begin Child"]
+
+
+@pytest.mark.parametrize("layer", range(1, LAYERS))
+def test_no_layer_of_a_release_can_be_left_out(program, layer: int):
+    """A job begins before the cleanup of the layer before it, once all jobs of the layers before it have run."""
+    claim = {"after": [f"Clean{layer - 1}", f"J{layer}_0"]}
+    text = json.dumps({**release(LAYERS, WIDTH), "claims": [claim]})
+    events = []
+    for before in range(layer):
+        jobs = [f"J{before}_{number}" for number in range(WIDTH)]
+        events += [f"release {job}" for job in jobs if before]
+        events += [event for job in jobs for event in (f"begin {job}", f"worked {job} done", f"leave {job}")]
+        events.append(f"settle All{before}")
+    events += [f"release J{layer}_0", f"begin J{layer}_0"]
+    assert sorted(journal_of(program, text, 0)) == sorted(f"w1 {event}" for event in events)
 
 
 @pytest.mark.parametrize("seed", range(KEPT_SEEDS))

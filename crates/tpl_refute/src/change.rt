@@ -1,5 +1,6 @@
 //! What is done otherwise where a run is played again.
 
+use crate::needed::Needed;
 use tpl_fast::task_of;
 use tpl_graph::Graph;
 use tpl_model::{Act, Answer, Event, TaskId};
@@ -48,6 +49,18 @@ fn has_token(graph: &Graph, task: TaskId) -> bool {
     (task.0 as usize) < graph.len() && graph.own_token(task).is_some()
 }
 
+/// A task that is begun at this place does all that it does, without a failure, before anything else is done.
+fn goes_through(events: &[Event], place: usize, task: TaskId) -> bool {
+    for next in place.saturating_add(1)..events.len() {
+        match events[next].act {
+            Act::Leave(left) => return left == task,
+            Act::Step(stepped) | Act::Worked(stepped, Answer::Done) if stepped == task => (),
+            _ => return false,
+        }
+    }
+    true
+}
+
 impl Change {
     /// All is as it was.
     pub(crate) const NONE: Change = Change {
@@ -66,12 +79,13 @@ impl Change {
         self.from <= number && number < self.to
     }
 
-    /// What is done in the place of an act.
-    pub(crate) fn instead(self, graph: &Graph, place: usize, act: Act) -> Instead {
+    /// What is done in the place of an act. What is needed isn't left out.
+    pub(crate) fn instead(self, graph: &Graph, needed: &Needed, place: usize, act: Act) -> Instead {
         if !self.is_about(place, act) {
             return Instead::Same;
         }
         match (self.kind, act) {
+            (Kind::Events, _) | (Kind::Tasks, _) if needed.has_event(place) => Instead::Same,
             (Kind::Events, _) | (Kind::Tasks, _) => Instead::Nothing,
             (Kind::Failures, Act::Worked(task, Answer::Failed)) => Instead::Done(task),
             (Kind::Begins, Act::Begin(task)) if has_token(graph, task) => Instead::Dropped(task),
@@ -80,10 +94,34 @@ impl Change {
         }
     }
 
-    /// Something is done otherwise than in these events.
-    pub(crate) fn changes(self, graph: &Graph, events: &[Event]) -> bool {
-        events.iter().enumerate().any(|(place, event)| self.instead(graph, place, event.act)
-            != Instead::Same)
+    /// An event at one of the places is done otherwise.
+    fn changes_a_place(self, graph: &Graph, needed: &Needed, events: &[Event]) -> bool {
+        for place in self.from..self.to.min(events.len()) {
+            if self.changes_place(graph, needed, events, place) {
+                return true;
+            }
+        }
+        false
+    }
+
+    /// The event at this place is done otherwise. A body that goes on to its end anyway isn't.
+    fn changes_place(self, graph: &Graph, needed: &Needed, events: &[Event], place: usize) -> bool {
+        let Some(event) = events.get(place) else {
+            return false;
+        };
+        match self.instead(graph, needed, place, event.act) {
+            Instead::Same => false,
+            Instead::Whole(task) => !goes_through(events, place, task),
+            _ => true,
+        }
+    }
+
+    /// Something is done otherwise than in these events, of which these are needed.
+    pub(crate) fn changes(self, graph: &Graph, needed: &Needed, events: &[Event]) -> bool {
+        match self.kind {
+            Kind::Tasks => needed.has_loose(self.from, self.to),
+            _ => self.changes_a_place(graph, needed, events),
+        }
     }
 
     /// What depends on what is changed isn't left out, but done otherwise too.

@@ -10,6 +10,7 @@ use crate::crew::{Crew, Habit};
 use crate::dice::Dice;
 use crate::judging::judge;
 use crate::kept::Kept;
+use crate::needed::Needed;
 use crate::plan::Plan;
 use crate::replay::{Case, Stage};
 use crate::shortening::cut_down;
@@ -18,7 +19,7 @@ use crate::tidying::tidy;
 use crate::walk::{Tables, Walked, walk};
 use std::alloc::{AllocError, Global};
 use tpl_graph::{Claim, Graph};
-use tpl_model::{Event, Inputs};
+use tpl_model::{Act, Answer, Event, Inputs};
 
 /// How many calm runs are made once a run is found, beside one for each token.
 const CALM_RUNS: u32 = 24;
@@ -61,6 +62,25 @@ fn cut(
     Ok(Counterexample { inputs, events })
 }
 
+/// Each event of the run is needed, and no failure, token or input lets another one be smaller.
+fn is_least(
+    graph: &Graph,
+    claim: &Claim,
+    events: &[Event],
+    needed: &mut Needed,
+) -> Result<bool, AllocError> {
+    if graph.token_count() > 0 || graph.input_count() > 0 || has_failure(events) {
+        return Ok(false);
+    }
+    needed.find(graph, claim, events)?;
+    Ok(!needed.has_loose(0, graph.len()))
+}
+
+/// A job fails.
+fn has_failure(events: &[Event]) -> bool {
+    events.iter().any(|event| matches!(event.act, Act::Worked(_, Answer::Failed)))
+}
+
 /// The smallest of the run and of those that calm runs give.
 fn smallest(
     alloc: Global,
@@ -75,7 +95,11 @@ fn smallest(
 {
     let mut best = first;
     for number in 0..(CALM_RUNS + graph.token_count() as u32) {
-        if stage.budget.is_spent() || best.events.len() <= FEW_EVENTS {
+        let events = best.events.as_slice();
+        if stage.budget.is_spent()
+            || events.len() <= FEW_EVENTS
+            || is_least(graph, claim, events, &mut stage.needed)?
+        {
             break;
         }
         let plan = Plan::calm(graph, claim, &mut tables.weights, dice, number);
@@ -111,6 +135,7 @@ pub(crate) fn improve(
         crew: Crew::new(alloc, graph)?,
         habit,
         kept: Kept::of_given(graph, claim.given()),
+        needed: Needed::new(alloc, graph)?,
         budget: budget.of_same(PLAYED_TO_CUT),
     };
     let events = Vec::from_slice(alloc, found.events.as_slice())?;

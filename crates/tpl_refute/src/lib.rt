@@ -19,8 +19,13 @@
 //!   depends on it goes on in another way, so the run is played out then; and so it is of a claim about complete runs.
 //!   Each change is kept that makes the run smaller. What counts most are jobs that fail and requests: they are what a
 //!   reader has to understand.
+//! - **What a run needs is told from its graph, and not found out by playing.** A task that begins needs what released it, and
+//!   so the end of what it continues, with all that was done for that. So of a run of hundreds of tasks no change is played
+//!   that leaves out what the claim can't fail without. What is told is less than what is needed: tokens and WhenAny tasks
+//!   are looked at by playing alone, and so is all of a claim about complete runs.
 //! - **The first run that fails is seldom the smallest one**, since many things go wrong in most random runs. So calm runs
-//!   are tried once one is found: no failure, then a request of each token at once, then one cause drawn by chance. The
+//!   are tried once one is found: no failure, then a request of each token at once, then one cause drawn by chance. None is
+//!   tried where nothing of the first one can be left out and no token, input or failure could spare it something. The
 //!   smallest one is put in order and judged.
 //! - **What a search plays is counted in events**, and what is dear beside them as so many; seconds would give
 //!   another answer on another machine. Making a run smaller, the calm runs, and putting in order have budgets of their
@@ -39,6 +44,7 @@ mod improving;
 mod judging;
 mod kept;
 mod links;
+mod needed;
 mod plan;
 mod refuting;
 mod replay;

@@ -8,6 +8,7 @@ use crate::budget::Budget;
 use crate::change::{Change, Instead};
 use crate::crew::{Crew, Habit};
 use crate::kept::Kept;
+use crate::needed::Needed;
 use std::alloc::{AllocError, Global};
 use tpl_audit::holds;
 use tpl_fast::Fast;
@@ -33,6 +34,8 @@ pub(crate) struct Stage {
     pub(crate) crew: Crew,
     pub(crate) habit: Habit,
     pub(crate) kept: Kept,
+    /// What is needed of the run that is played again.
+    pub(crate) needed: Needed,
     pub(crate) budget: Budget,
 }
 
@@ -169,11 +172,8 @@ pub(crate) fn replay(
     stage.crew.begin_run(stage.habit);
     let mut fails = false;
     for (place, event) in events.iter().enumerate() {
-        stage.play(
-            &mut core,
-            event.act,
-            change.instead(case.graph, place, event.act),
-        );
+        let instead = change.instead(case.graph, &stage.needed, place, event.act);
+        stage.play(&mut core, event.act, instead);
         if !holds(&core, case.claim) {
             fails = true;
             break;

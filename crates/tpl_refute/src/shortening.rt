@@ -20,16 +20,21 @@ const KINDS: [Kind; 4] = [Kind::Failures, Kind::Tasks, Kind::Events, Kind::Begin
 fn smaller(case: Case<'_>, best: Vec<Event>, change: Change, stage: &mut Stage) -> Failing
     requires { Fits case.graph.now.graph case.claim.now }
 {
-    if stage.budget.is_spent() || !change.changes(case.graph, best.as_slice()) {
+    if stage.budget.is_spent() || !change.changes(case.graph, &stage.needed, best.as_slice()) {
         return Ok(best);
     }
     match replay(case, best.as_slice(), change, stage)? {
-        Some(played) if Size::of(played.as_slice()) < Size::of(best.as_slice()) => Ok(played),
+        Some(played) if Size::of(played.as_slice()) < Size::of(best.as_slice()) => {
+            stage
+                .needed
+                .find(case.graph, case.claim, played.as_slice())?;
+            Ok(played)
+        }
         _ => Ok(best),
     }
 }
 
-/// Tries changes of this kind, of so many at once, the last ones first.
+/// Tries changes of this kind, of so many at once, the last ones first. What is needed of the run is known.
 pub(crate) fn sweep(
     case: Case<'_>,
     found: Vec<Event>,
@@ -86,6 +91,7 @@ pub(crate) fn cut_down(case: Case<'_>, found: Vec<Event>, stage: &mut Stage) -> 
     requires { Fits case.graph.now.graph case.claim.now }
 {
     let most = found.len();
+    stage.needed.find(case.graph, case.claim, found.as_slice())?;
     let mut best = found;
     for halving in 0..HALVINGS {
         let size = MOST_AT_ONCE >> halving;
