@@ -1,5 +1,7 @@
 //! Which bodies are open, and whether those of each worker nest.
 
+ghost use Rattle.std.specs.Prelude.{◌<◌, ◌≤◌, IfOk, IfSome, length};
+
 use std::alloc::{AllocError, Global};
 use tpl_graph::Graph;
 use tpl_model::{Act, Actor, Event, MOST_WORKERS, TaskId, Worker};
@@ -139,7 +141,10 @@ pub fn first_crossing(
     alloc: Global,
     graph: &Graph,
     events: &[Event],
-) -> Result<Option<usize>, AllocError> {
+) -> Result<Option<usize>, AllocError>
+    ensures { IfOk result (λ crossing. IfSome crossing (λ place.
+        (0 < place) × (place ≤ length events.now))) }
+{
     let mut bodies = Bodies::new(alloc, graph)?;
     for (before, event) in events.iter().enumerate() {
         if !bodies.allow(graph, *event) {
