@@ -104,9 +104,9 @@ fn never_begins(
     question: &Question<'_, '_>,
     task: Option<TaskId>,
 ) -> Result<Option<Empty>, AllocError>
-    requires speaks { IfSome task (λ t. SpeaksOfBegin question.now.claim.now.body t.0) }
-    requires holds { HoldsAlways question.now.graph.now.graph question.now.claim.now }
-    ensures { IfOk result (λ found. IfSome found (IsEmpty question.now.graph.now.graph
+    requires { IfSome task (λ t. SpeaksOfBegin question.now.claim.now.body t.0) }
+    ensures { HoldsAlways question.now.graph.now.graph question.now.claim.now
+        → IfOk result (λ found. IfSome found (IsEmpty question.now.graph.now.graph
         question.now.claim.now)) }
 {
     match task {
@@ -125,8 +125,8 @@ fn never_begins(
 
 /// Whether a task never begins whose begin the claim needs to say something.
 fn lacks_begin(question: &Question<'_, '_>) -> Result<Option<Empty>, AllocError>
-    requires { HoldsAlways question.now.graph.now.graph question.now.claim.now }
-    ensures { IfOk result (λ found. IfSome found (IsEmpty question.now.graph.now.graph
+    ensures { HoldsAlways question.now.graph.now.graph question.now.claim.now
+        → IfOk result (λ found. IfSome found (IsEmpty question.now.graph.now.graph
         question.now.claim.now)) }
 {
     let (first, second) = needed(question.claim.body());
@@ -212,8 +212,8 @@ fn never_ends(question: &Question<'_, '_>, task: TaskId) -> Result<bool, AllocEr
 
 /// Whether a task whose ends are given never ends so.
 fn lacks_end(question: &Question<'_, '_>) -> Result<Option<Empty>, AllocError>
-    requires { HoldsAlways question.now.graph.now.graph question.now.claim.now }
-    ensures { IfOk result (λ found. IfSome found (IsEmpty question.now.graph.now.graph
+    ensures { HoldsAlways question.now.graph.now.graph question.now.claim.now
+        → IfOk result (λ found. IfSome found (IsEmpty question.now.graph.now.graph
         question.now.claim.now)) }
 {
     for given in question.claim.given() {
@@ -312,10 +312,10 @@ pub fn empty_claims_hold()
     ensures { EmptyClaimsHold }
 {}
 
-/// Why a claim that holds says nothing, where that is certified without splits. None promises only that the claim doesn't
-/// let its task end anyhow, nor in each way that what is given leaves, and doesn't speak of the exception of a body of which
-/// no path throws. What is said to be empty holds in each run for that reason alone ([`empty_claims_hold`]). Out of memory
-/// is the only error.
+/// Why a claim says nothing if it holds, where that is certified without splits; of a claim that doesn't hold a reason promises
+/// nothing. None promises only that the claim doesn't let its task end anyhow, nor in each way that what is given leaves, and
+/// doesn't speak of the exception of a body of which no path throws. A claim that is empty for a reason holds in each run for
+/// that reason alone ([`empty_claims_hold`]). Out of memory is the only error.
 pub fn why_empty(
     alloc: Global,
     graph: &Graph,
@@ -323,9 +323,9 @@ pub fn why_empty(
     rules: RuleSet,
     seen: Option<&Seen>,
 ) -> Result<Option<Empty>, AllocError>
-    requires fits { Fits graph.now.graph claim.now }
-    requires holds { HoldsAlways graph.now.graph claim.now }
-    ensures empty { IfOk result (λ found. IfSome found (IsEmpty graph.now.graph claim.now)) }
+    requires { Fits graph.now.graph claim.now }
+    ensures empty { HoldsAlways graph.now.graph claim.now
+        → IfOk result (λ found. IfSome found (IsEmpty graph.now.graph claim.now)) }
     ensures plain { IfOk result (λ found. IsPlainlyEmpty graph.now.graph claim.now
         → IsTrue (is_some found)) }
 {

@@ -1,11 +1,6 @@
 use Rattle.tpl_verify.proofs.verifying.verify_claim.Goals as goal
 
-pub why_empty-requires-clause-holds : goal.why_empty-requires-clause-holds
-why_empty-requires-clause-holds c =
-    let is = rw c.in-Holds.is at c.in_ok-splits.ensures.judged in
-    is.0
-
 pub returns-in_ok-empty-in-Holds-clause-verdict : goal.returns-in_ok-empty-in-Holds-clause-verdict
 returns-in_ok-empty-in-Holds-clause-verdict c =
     let is = rw c.in-Holds.is at c.in_ok-splits.ensures.judged in
-    record { always = is.0; certified = is.1; empty = c.in_ok-empty-in-Holds.ensures.empty; plain = c.in_ok-empty-in-Holds.ensures.plain }
+    record { always = is.0; certified = is.1; empty = c.in_ok-empty-in-Holds.ensures.empty is.0; plain = c.in_ok-empty-in-Holds.ensures.plain }
