@@ -5,6 +5,8 @@ by chance the verdicts agree with `analyse`, `check`, `refute` and `audit`, clai
 bytes for every number of jobs. The JSON is valid by schema/verify.schema.json and the JUnit by verdicts/junit.xsd, both
 say what the text says, and each run that is given is one in which the claim fails.
 
+no_threads.c is what the program loads where it is to make no thread.
+
 The validators are Debian's python3-jsonschema and python3-lxml, which are installed where that can be done. Without the
 first nothing is tested of the schema, and that has failed; without the second that test is skipped.
 """
@@ -240,6 +242,15 @@ def test_jobs(program, text: str, wanted: list[str]):
     for form in FORMATS:
         first, *others = (verify(program, "--as", form, "--jobs", jobs, "--runs", RUNS, text=text) for jobs in JOBS)
         assert all((other.stdout, other.exit) == (first.stdout, first.exit) for other in others), form
+
+
+@pytest.mark.parametrize("text, wanted", worked_out())
+def test_without_threads(bare_program, library, text: str, wanted: list[str]):
+    """The same bytes where no thread can be made."""
+    words = ("verify", "--jobs", "8", "--runs", RUNS)
+    alone = bare_program(*words, given=text, environment={"LD_PRELOAD": library("no_threads.c")}, limit=LIMIT)
+    beside = bare_program(*words, given=text, limit=LIMIT)
+    assert (alone.stdout, alone.exit) == (beside.stdout, beside.exit)
 
 
 def chain(claims: int) -> str:
