@@ -196,7 +196,7 @@ fn answer_each<R: Threads + Sync, C: Command + Sync, I: Read, O: Write>(
 }
 
 /// Answers the document that comes, and says on the standard error why the answer is what it is, where that is asked for.
-fn answer<R: Threads + Wait + Sync, I: Read, O: Write>(
+fn answer<R: Threads + Wait + Sync, I: Read, O: Write + Send>(
     rt: &HostRuntime,
     threads: &R,
     order: &Order,
@@ -245,7 +245,7 @@ fn answer<R: Threads + Wait + Sync, I: Read, O: Write>(
                 jobs,
                 style,
             };
-            let (progress, teller) = (ClaimProgress::new(rt), teller.of_search());
+            let (progress, teller) = (ClaimProgress::beside(rt, style), teller.of_search());
             verify_document(threads, alloc, asked, &progress, teller, from, to)
         }
         Line::Trace => trace_document(alloc, teller, from, to),
