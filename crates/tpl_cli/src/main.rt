@@ -64,6 +64,7 @@ use tpl_journal::Counting;
 use tpl_model::Inputs;
 use tpl_reader::Document;
 use tpl_report::{Crew, Telling};
+use tpl_shown::audit_page;
 use tpl_trace::trace_document;
 use tpl_verdicts::{OneByOne, Verification, verify_document};
 use tpl_verify::{Limits, Search, refute_document};
@@ -249,6 +250,7 @@ fn answer<R: Threads + Wait + Sync, I: Read, O: Write>(
             verify_document(threads, alloc, asked, &progress, teller, from, to)
         }
         Line::Trace => trace_document(alloc, teller, from, to),
+        Line::AuditPage => audit_page(alloc, teller, from, to),
     }
 }
 
