@@ -27,7 +27,9 @@ function runOf(number) {
   return runs.get(number);
 }
 const chosenRun = () => runOf(now.claim);
-const chosenCauses = (list) => allCauses(claimOf(now.claim), chosenRun(), list);
+// The events that led to where the chosen claim fails, as the program says them.
+const chosenCauses = () => verdictOf(now.claim)?.causes || [];
+const causingEvents = () => chosenCauses().map(({ event }) => event);
 
 // Chooses a claim, at the end of its run.
 function chooseClaim(number) {
@@ -85,7 +87,7 @@ function goTo(step) {
 
 // Goes to the next cause, or to the one before; where there is none, by one event.
 function goToCause(way) {
-  const causes = chosenCauses(toldCauses);
+  const causes = causingEvents();
   const next = way > 0 ? causes.find((cause) => cause > now.step) : causes.findLast((cause) => cause < now.step);
   goTo(next ?? now.step + way);
 }

@@ -25,7 +25,7 @@ function showLanes() {
   if (!run) return byId("lanes").replaceChildren();
   const count = run.events.length;
   lanes.unit = unitFor(count);
-  const causes = new Set(chosenCauses());
+  const causes = new Set(causingEvents());
   const actors = [...new Set(run.events.map((event) => event.actor))].sort(compareActors);
   const rows = actors.map((actor) => laneRow(run, actor, causes));
   const fails = html("div", { class: "fail" }, html("span", {}, WORDS.fails));
