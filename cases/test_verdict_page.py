@@ -307,6 +307,15 @@ def test_what_is_wrong_with_a_claim_is_told_in_the_words_of_the_program(program:
     assert set().union(*words) == {"holds", "fails", "empty", "unknown"}
 
 
+@pytest.mark.parametrize("name", list(FAILING)[:COMPARED])
+def test_how_a_run_came_to_it_is_told_in_the_words_of_the_program(program: Program, chromium: Browser, written, name: str):
+    assert chromium.open(written(FAILING[name], name)) == []
+    for verdict in verdicts_of(program, FAILING[name]):
+        chromium.ask("document.getElementById(arguments[0]).click()", f"claim-{verdict['claim']}")
+        told = chromium.ask("return [...document.querySelectorAll('.causes li')].map((cause) => cause.textContent)")
+        assert told == [f"{cause['event']} {cause['says']}" for cause in verdict.get("causes", [])]
+
+
 # how it is used
 
 
@@ -527,7 +536,10 @@ def told(place: int, journal: str) -> dict:
     are long."""
     said = {"claim": place + 1, "text": f"Task{place} never begins"}
     if place < 64 or place % 100 == 0:
-        return {**said, "verdict": "fails", "run": {"events": journal.count("\n"), "inputs": {}, "journal": journal}}
+        last = journal.count("\n")
+        causes = [{"event": last, "led_to": last, "says": f"Task{place} begins"}]
+        run = {"events": last, "inputs": {}, "journal": journal}
+        return {**said, "verdict": "fails", "causes": causes, "run": run}
     return {**said, "verdict": "holds", "splits": 0}
 
 

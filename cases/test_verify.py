@@ -44,6 +44,8 @@ REASONS = {
     "NeverEnds": "{task} never ends",
     "NeverKept": "no complete run keeps what is given",
 }
+# how many causes the text tells at most
+MOST_TOLD = 20
 # the verdicts that are a failure for a reporter of tests
 FAILURES = ("fails", "empty", "unknown")
 
@@ -274,6 +276,31 @@ def test_formats_agree(program, junit, text: str, wanted: list[str]):
     failed = [[part.get("type") for part in case] for case in cases]
     assert failed == [[entry["verdict"]] if entry["verdict"] in FAILURES else [] for entry in each]
     assert (suite.get("tests"), suite.get("failures")) == (str(len(each)), str(sum(map(len, failed))))
+
+
+def cause_lines(causes: list[dict], word: str) -> list[str]:
+    """The lines that tell of causes: of the last of them, and none where there is one alone."""
+    lines = [f"  {word} {cause['event']}: {cause['says']}" for cause in causes[-MOST_TOLD:]]
+    return ["how it came to this:", *lines] if len(lines) > 1 else []
+
+
+@pytest.mark.parametrize("text, wanted", worked_out())
+def test_causes(program, text: str, wanted: list[str]):
+    """The causes are events of the run, in its order. The text has them below the run, and `audit --explain` tells the same."""
+    below = lines_below(verify(program, text=text).stdout)
+    for said, lines in zip(verdicts(program, text=text), below, strict=True):
+        if said["verdict"] != "fails":
+            continue
+        run, causes = said["run"], said["causes"]
+        places = [cause["event"] for cause in causes]
+        assert places == sorted(set(places)) and all(0 < place <= run["events"] for place in places)
+        assert all(place <= cause["led_to"] <= run["events"] for place, cause in zip(places, causes))
+        told = cause_lines(causes, "event")
+        assert lines[lines.index(f"claim {said['claim']} fails here") + 1 :] == told
+        start = {"start": {"inputs": run["inputs"]}} if run["inputs"] else {}
+        document = {**alone(text, said["claim"] - 1), **start, "journal": run["journal"]}
+        audit = program("audit", "--explain", given=json.dumps(document))
+        assert "".join(f"{line}\n" for line in cause_lines(causes, "line")) in audit.stderr
 
 
 @pytest.mark.parametrize(

@@ -41,8 +41,9 @@ namespace TaskGraph
         /// <summary>The claim in words.</summary>
         public string Text { get; }
 
-        /// <summary>Why the verdict isn't <see cref="TaskGraph.Verdict.Holds"/>: the events of the run in which the claim fails and the
-        /// line that says so, the reason for which it says nothing, or how far it was tried. Empty where it holds.</summary>
+        /// <summary>Why the verdict isn't <see cref="TaskGraph.Verdict.Holds"/>: the events of the run in which the claim fails, the
+        /// line that says so and how the run came to it; the reason for which it says nothing; or how far it was tried. Empty where
+        /// it holds.</summary>
         public IReadOnlyList<string> Lines { get; }
 
         /// <summary>Gives the words of the program.</summary>

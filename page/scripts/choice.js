@@ -28,7 +28,9 @@ function runOf(number) {
   return runs.get(number);
 }
 const chosenRun = () => runOf(now.claim);
-const chosenCauses = (list) => allCauses(claimOf(now.claim), runToFailure(now.claim), list);
+// The events that led to where the chosen claim fails, as the program says them.
+const chosenCauses = () => verdictOf(now.claim)?.causes || [];
+const causingEvents = () => chosenCauses().map(({ event }) => event);
 
 // Chooses a claim, at the end of its run, or where it fails in the recorded one.
 function chooseClaim(number) {
@@ -86,7 +88,7 @@ function goTo(step) {
 
 // Goes to the next cause, or to the one before; where there is none, by one event.
 function goToCause(way) {
-  const causes = chosenCauses(toldCauses);
+  const causes = causingEvents();
   const next = way > 0 ? causes.find((cause) => cause > now.step) : causes.findLast((cause) => cause < now.step);
   goTo(next ?? now.step + way);
 }

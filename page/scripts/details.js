@@ -42,18 +42,17 @@ function reasonElements({ claim: number, verdict, splits }) {
 }
 
 function failureElements(claim, run) {
-  const { sentence: words, from } = failureOf(claim, run);
-  const headOf = (number) => (from.length > 1 ? [WORDS.causesOf, taskButton(run.events[number - 1].task)] : WORDS.causes);
-  const chains = from.map((number) => [html("h3", {}, headOf(number)), chainElement(run, toldCauses(run, number))]);
-  return [html("h3", {}, WORDS.wrong), html("p", {}, sentenceElements(words)), chains];
+  const wrong = [html("h3", {}, WORDS.wrong), html("p", {}, sentenceElements(failureOf(claim, run)))];
+  const causes = chosenCauses();
+  return causes.length ? [...wrong, html("h3", {}, WORDS.causes), chainElement(run, causes)] : wrong;
 }
 
 // A chain of causes. Where it begins with many tasks that ran, those can be unfolded.
-function chainElement(run, numbers) {
-  const isPlain = (number) => run.events[number - 1].changes.some(([, status]) => status === RAN);
-  const first = numbers.findIndex((number) => !isPlain(number));
-  const plain = first < 0 ? numbers.length - 1 : first;
-  const items = numbers.map((number) => causeElement(run, number, isPlain(number)));
+function chainElement(run, causes) {
+  const isPlain = ({ event }) => run.events[event - 1].changes.some(([, status]) => status === RAN);
+  const first = causes.findIndex((cause) => !isPlain(cause));
+  const plain = first < 0 ? causes.length - 1 : first;
+  const items = causes.map((cause) => causeElement(cause, isPlain(cause)));
   if (plain < FOLDED_STEPS) return html("ol", { class: "causes" }, items);
   const folded = html("ol", { class: "causes" }, items.slice(0, plain));
   const more = html("details", {}, html("summary", {}, WORDS.folded(plain)), folded);
@@ -63,9 +62,9 @@ function chainElement(run, numbers) {
 const stepButton = (number, title) =>
   html("button", { type: "button", class: "go", title: title ?? WORDS.toEvent(number), onclick: () => goTo(number) }, number);
 
-function causeElement(run, number, isPlain) {
-  const attributes = { "data-event": number, class: isPlain ? "plain" : "" };
-  return html("li", attributes, stepButton(number), " ", sentenceElements(run.events[number - 1].sentence));
+function causeElement({ event, says }, isPlain) {
+  const attributes = { "data-event": event, class: isPlain ? "plain" : "" };
+  return html("li", attributes, stepButton(event), " ", withTasks(says));
 }
 
 function inputElements({ inputs }) {

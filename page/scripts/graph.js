@@ -7,7 +7,7 @@ const graph = { boxes: new Map(), groups: new Map(), standsFor: new Map(), opene
 function keptTasks() {
   const { about, ended } = chosenSubject();
   const run = chosenRun();
-  const causing = chosenCauses().map((number) => run.events[number - 1].task);
+  const causing = causingEvents().map((number) => run.events[number - 1].task);
   return new Set([...about, ...ended, ...graph.opened, ...causing.filter((id) => id !== undefined)]);
 }
 

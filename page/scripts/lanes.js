@@ -36,7 +36,7 @@ function showLanes() {
   lanes.unit = unitFor(count);
   lanes.isByTime &&= count > 0;
   if (lanes.isByTime) lanes.scale = ((byId("lanes").clientWidth - LANE.head - 100) / wholeTime(count)) * lanes.zoom;
-  const causes = new Set(chosenCauses());
+  const causes = new Set(causingEvents());
   const actors = [...new Set(run.events.map((event) => event.actor))].sort(compareActors);
   const rows = actors.map((actor) => laneRow(run, actor, causes));
   const fails = failsAt(run) === undefined ? "" : failElement(failsAt(run));

@@ -7,8 +7,8 @@ function paintGraph() {
   const run = chosenRun();
   const subject = chosenSubject();
   const event = run?.events[now.step - 1];
-  const causes = chosenCauses().filter((number) => number <= now.step);
-  const causing = new Set(causes.map((number) => run.events[number - 1].task));
+  const causes = chosenCauses().filter(({ event }) => event <= now.step);
+  const causing = new Set(causes.map(({ event }) => run.events[event - 1].task));
   const statuses = run?.statusAt(now.step);
   for (const box of graph.boxes.values()) paintBox(box, statuses, { subject, event, causing });
   paintTrail(run, causes);
@@ -49,12 +49,11 @@ function paintBox(box, statuses, { subject, event, causing }) {
 
 // The lines along which the causes went.
 function paintTrail(run, causes) {
-  const paths = causes.map((number) => {
-    const event = run.events[number - 1];
-    const from = run.events[event.causes.at(-1) - 1]?.task;
-    if (from === undefined || event.task === undefined || from === event.task) return "";
-    if (edgesTo[event.task].some((edge) => edge.from === from)) return graph.pathBetween(from, event.task);
-    return edgesFrom[event.task].some((edge) => edge.to === from) ? graph.pathBetween(event.task, from) : "";
+  const paths = causes.map(({ event, led_to }) => {
+    const [from, to] = [event, led_to].map((number) => run.events[number - 1].task);
+    if (from === undefined || to === undefined || from === to || led_to > now.step) return "";
+    if (edgesTo[to].some((edge) => edge.from === from)) return graph.pathBetween(from, to);
+    return edgesFrom[to].some((edge) => edge.to === from) ? graph.pathBetween(to, from) : "";
   });
   graph.trail.replaceChildren(...paths.filter(Boolean).map((path) => svg("path", { d: path })));
 }

@@ -14,7 +14,6 @@ class Run {
     this.beganAt = tasks.map(() => 0);
     this.endedAt = tasks.map(() => 0);
     this.threwAt = tasks.map(() => 0);
-    this.lastAt = tasks.map(() => 0);
     // by task: what its body threw, whether it saw its own token requested, and whose exceptions it ended with
     this.thrown = tasks.map(() => "");
     this.acknowledges = tasks.map(() => false);
@@ -25,7 +24,7 @@ class Run {
   // Adds the event of a line of the journal.
   play(line) {
     const [actor, act, what, answer] = line.split(" ");
-    const event = { number: this.events.length + 1, actor, act, changes: [], causes: [], sentence: [], isBad: false };
+    const event = { number: this.events.length + 1, actor, act, changes: [], sentence: [], isBad: false };
     this.events.push(event);
     if (act === "request") {
       this.ask(what, event);
@@ -34,14 +33,11 @@ class Run {
       return;
     }
     event.task = idOf.get(what);
-    event.causes = [this.lastAt[event.task]];
     this[act](event, event.task, answer);
-    this.lastAt[event.task] = event.number;
   }
 
   // Begins a task that was started, or that became ready.
   begin(event, id) {
-    if (tasks[id].kind === "child") event.causes = [this.startedAt.get(id)];
     this.beganAt[id] = event.number;
     this.change(event, id, RUNNING);
     this.say(event, "begin");
@@ -50,7 +46,6 @@ class Run {
   // Makes a continuation ready.
   release(event, id) {
     const antecedent = idOf.get(tasks[id].after);
-    event.causes = [this.endedAt[antecedent]];
     this.change(event, id, READY);
     this.say(event, "release", { other: antecedent, status: this.status[antecedent] });
   }
@@ -84,10 +79,8 @@ class Run {
   close(event, id) {
     const children = this.attachedTo(id);
     const bad = children.find((child) => this.status[child] === FAULTED);
-    const last = children.reduce((one, other) => (this.endedAt[other] > this.endedAt[one] ? other : one));
     this.finish(event, id);
     const isSince = this.status[id] === FAULTED && !this.thrown[id];
-    event.causes = [this.endedAt[isSince ? bad : last]];
     this.say(event, isSince ? "closeSince" : "close", { other: bad, status: this.status[id] });
   }
 
@@ -98,7 +91,6 @@ class Run {
     const ends = allowedEnds(task);
     const status = this.status[antecedent];
     const isMisfit = hasEnded(status) && !ends.includes(STATUSES[status]);
-    event.causes = [isMisfit ? this.endedAt[antecedent] : this.requestOf(task.token)];
     this.change(event, id, CANCELED);
     const [how, end] = conditionWords(ends).split(" ");
     this.say(event, isMisfit ? "misfit" : "drop", { other: antecedent, how, end, status, token: task.token });
@@ -113,7 +105,6 @@ class Run {
   }
 
   settleAny(event, id, winner) {
-    event.causes = [this.endedAt[winner]];
     this.change(event, id, RAN);
     this.say(event, "first", { other: winner });
   }
@@ -121,7 +112,6 @@ class Run {
   settleAll(event, id, ended) {
     const of = (status) => ended.find((other) => this.status[other] === status);
     const bad = of(FAULTED) ?? of(CANCELED);
-    event.causes = [this.endedAt[bad ?? ended.at(-1)]];
     this.carried[id] = [...new Set(tasks[id].of.flatMap((name) => this.carried[idOf.get(name)]))];
     this.change(event, id, bad === undefined ? RAN : this.status[bad]);
     this.say(event, bad === undefined ? "settle" : "settleSince", { other: bad, status: this.status[id] });
@@ -205,7 +195,6 @@ const STATEMENTS = {
     const isOwn = tasks[id].token === token;
     run.say(event, !request ? "checkInVain" : isOwn ? "checkOwn" : "checkOther", { token });
     if (!request) return;
-    event.causes.unshift(request);
     if (!isOwn) return run.throw(event, id, `OperationCanceled(${token})`);
     run.acknowledges[id] = true;
     run.rest[id] = [];

@@ -157,7 +157,6 @@ const WORDS = {
   size: () => `${counted(tasks.length, "task")} · ${counted(claims.length, "claim")}`,
   wrong: "What goes wrong",
   causes: "How it came to this",
-  causesOf: "Why ",
   folded: (count) => `${counted(count, "step")} before, in which tasks ran`,
   inputs: "Inputs",
   input: (name, value) => `${name} is ${value}`,

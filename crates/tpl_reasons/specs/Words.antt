@@ -1,5 +1,5 @@
 -- Claims, and the values of inputs, in words.
-use Rattle.std.specs.Prelude.{ℕ, suc, ◌&&◌, ◌==◌, Bool, true, false, not, List, [], ◌∷◌, ◌++◌, codes, count_by, filter, flat_map, length, map, nat_lt, slice_index_or, if◌then◌else◌}
+use Rattle.std.specs.Prelude.{ℕ, suc, ◌&&◌, ◌==◌, Bool, true, false, not, List, [], ◌∷◌, ◌++◌, codes, count_by, filter, flat_map, length, map, nat_lt, if◌then◌else◌}
 use Rattle.tpl_model.specs.declared.claim.Given.{Given}
 use Rattle.tpl_model.specs.declared.claim.Given.TheVariants.{Input, Quiet, Ended, Succeeds}
 use Rattle.tpl_model.specs.declared.claim.Property.{Property}
@@ -11,19 +11,8 @@ use Rattle.tpl_model.specs.declared.ids.TaskId.{TaskId}
 use Rattle.tpl_model.specs.Claims.{Claim}
 use Rattle.tpl_model.specs.Finals.{final_name, has}
 use Rattle.tpl_draft.specs.Named.{Names}
-use Rattle.tpl_reasons.specs.declared.words.Named.{Named}
-use Rattle.tpl_reasons.specs.declared.words.Named.TheVariants.{Task, Token, Site, Input as InputOf}
-
--- the name at this place, or a question mark where there is none
-abbrev pub name_or_mark : List (List ℕ) → ℕ → List ℕ
-name_or_mark names i = slice_index_or names i (codes "?")
-
--- the name of what a graph has names for
-abbrev pub named_text : Names → Named → List ℕ
-named_text names (Task t) = name_or_mark names.tasks t.0
-named_text names (Token k) = name_or_mark names.tokens k.0
-named_text names (Site s) = name_or_mark names.sites s.0
-named_text names (InputOf i) = name_or_mark names.inputs i.0
+use Rattle.tpl_causes.specs.declared.naming.Named.TheVariants.{Task, Token, Site, Input as InputOf}
+use Rattle.tpl_causes.specs.Naming.{named_text}
 
 -- words with this text between each two
 abbrev pub listed : List ℕ → List (List ℕ) → List ℕ

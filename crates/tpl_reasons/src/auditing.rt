@@ -4,19 +4,19 @@ ghost use Rattle.std.specs.Prelude.{◌≡◌};
 ghost use Rattle.tpl_reasons.specs.Prelude.{audit_reason, verdict_reason};
 
 use crate::crossing::crossing_text;
-use crate::history::causes_text;
 use crate::journal::{ending_text, line_text};
 use crate::reason::Reason;
 use crate::refusal::refusal_text;
-use crate::words::{Named, Said, claim_text, name, name_of};
+use crate::words::{Said, claim_text};
 use std::alloc::{AllocError, Global};
 use tpl_audit::{Failure, OtherEnd, Verdict};
+use tpl_causes::{Named, causes_of, name, name_of, told};
 use tpl_commands::Audit;
 use tpl_fast::Fast;
 use tpl_graph::Kind;
 use tpl_journal::{JournalFault, read_journal};
 use tpl_machine::Core;
-use tpl_model::{Event, InputId, Inputs, Status, TaskId};
+use tpl_model::{Event, InputId, Status, TaskId};
 use tpl_reader::Document;
 
 /// The reason of a verdict on the journal, if it has one.
@@ -83,15 +83,15 @@ pub(crate) fn no_journal_text(alloc: Global, document: &Document, fault: Journal
 
 /// The run of a journal, as far as it is allowed.
 #[derive(Drop)]
-pub(crate) struct Replay<'g> {
+struct Replay<'g> {
     /// The run.
-    pub(crate) run: Fast<'g>,
+    run: Fast<'g>,
     /// The first event that isn't allowed.
     refused: Option<Event>,
 }
 
 /// The run of these events. None, where the values of the inputs aren't known.
-pub(crate) fn played<'g>(
+fn played<'g>(
     alloc: Global,
     document: &'g Document,
     events: &[Event],
@@ -179,6 +179,22 @@ pub(crate) fn run_text(
         text.push_str(other_end_text(alloc, document, other)?.as_str())?;
     }
     Ok(text)
+}
+
+/// How the journal's run came to where a claim fails, an event on each line. Nothing, where no event led there.
+fn causes_text(alloc: Global, document: &Document, failure: Failure) -> Said {
+    let (Some(inputs), Some(claim)) = (
+        document.inputs(),
+        document.claims.get(failure.claim.saturating_sub(1)),
+    ) else {
+        return Ok(String::new(alloc));
+    };
+    let Ok(events) = read_journal(alloc, &document.graph, document.journal.as_str()) else {
+        return Ok(String::new(alloc));
+    };
+    let events = &events[..failure.place.min(events.len())];
+    let causes = causes_of(alloc, &document.graph, claim, &inputs, events)?;
+    told(alloc, "line", &causes)
 }
 
 /// At which event a claim fails, how the run came there, and whether no thread makes the run.

@@ -1,8 +1,9 @@
 //! The leaves of a certificate, and what their rows say.
 
 use crate::rules::role;
-use crate::words::{Said, ends_text, list_text, name, set_text, tokens_text};
+use crate::words::{Said, ends_text, list_text, set_text, tokens_text};
 use std::alloc::{AllocError, Global};
+use tpl_causes::name;
 use tpl_graph::{Graph, Role};
 use tpl_model::{RuleSet, TaskId};
 use tpl_reader::Document;

@@ -23,7 +23,6 @@ mod auditing;
 mod checking;
 mod crossing;
 mod explaining;
-mod history;
 mod journal;
 mod leaves;
 mod misread;

@@ -4,8 +4,9 @@ ghost use Rattle.tpl_graph.specs.Prelude.{Fits};
 
 use crate::property::{Obstacle, obstacle_to};
 use crate::rules::role;
-use crate::words::{Said, name, token_name};
+use crate::words::Said;
 use std::alloc::{AllocError, Global};
+use tpl_causes::{name, token_name};
 use tpl_checker::{Assumptions, assumed_for};
 use tpl_graph::{Claim, Graph, Role};
 use tpl_model::{RuleSet, TaskId};

@@ -3,8 +3,9 @@
 ghost use Rattle.std.specs.Prelude.{◌≡◌, IfOk, string_bytes};
 ghost use Rattle.tpl_reasons.specs.Prelude.{property_words};
 
-use crate::words::{Said, ends_text, name};
+use crate::words::{Said, ends_text};
 use std::alloc::Global;
+use tpl_causes::name;
 use tpl_graph::Graph;
 use tpl_model::{Final, Property, TaskId};
 

@@ -1,7 +1,8 @@
 //! Why an event isn't allowed after those before it.
 
-use crate::words::{Said, actor_text, name, token_name};
+use crate::words::{Said, actor_text};
 use std::alloc::Global;
+use tpl_causes::{name, token_name};
 use tpl_fast::task_of;
 use tpl_machine::{Core, Next};
 use tpl_model::{Act, Actor, Event, Status, TaskId, TokenId};

@@ -1,7 +1,8 @@
 //! The rules for the rows of a leaf, each in one sentence.
 
-use crate::words::{Said, name};
+use crate::words::Said;
 use std::alloc::Global;
+use tpl_causes::name;
 use tpl_graph::{Graph, Role};
 use tpl_model::{Rule, RuleSet, TaskId};
 use tpl_reader::Document;

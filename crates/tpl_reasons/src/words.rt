@@ -1,10 +1,11 @@
-//! Names, claims, and sets of tasks and of ends, in words.
+//! Claims, and sets of tasks and of ends, in words.
 
 ghost use Rattle.std.specs.Prelude.{◌≡◌, filter, map, not, IfOk, string_bytes};
-ghost use Rattle.tpl_reasons.specs.Prelude.{are_all_jobs, claim_words, ends_words, given_word, given_words, input_words, inputs_given, is_of_job, listed, named_text};
+ghost use Rattle.tpl_reasons.specs.Prelude.{are_all_jobs, claim_words, ends_words, given_word, given_words, input_words, inputs_given, is_of_job, listed};
 
 use crate::property::property_text;
 use std::alloc::{AllocError, Global};
+use tpl_causes::{Named, name, name_of, token_name};
 use tpl_graph::{Claim, Graph};
 use tpl_model::{Actor, Finals, Given, InputId, Inputs, SiteId, TaskId, TaskSet, TokenId};
 use tpl_paths::TokenSet;
@@ -15,43 +16,6 @@ pub(crate) type Said = Result<String, AllocError>;
 
 /// The most tasks of a set that are named.
 const MOST_NAMES: usize = 5;
-
-/// What a graph has names for.
-#[derive(Clone, Copy)]
-pub(crate) enum Named {
-    Task(TaskId),
-    Token(TokenId),
-    Site(SiteId),
-    Input(InputId),
-}
-
-/// The name of it, or a question mark where the graph has none for it.
-pub(crate) fn name_of(graph: &Graph, named: Named) -> &str
-    ensures { result.now ≡ named_text graph.now.names named }
-{
-    graph.valid_law();
-    match named {
-        Named::Task(task) if (task.0 as usize) < graph.len() => graph.name(task),
-        Named::Token(token) if (token.0 as usize) < graph.token_count() => graph.token_name(token),
-        Named::Site(site) if (site.0 as usize) < graph.site_count() => graph.site_name(site),
-        Named::Input(input) if (input.0 as usize) < graph.input_count() => graph.input_name(input),
-        _ => "?",
-    }
-}
-
-/// The name of a task, or a question mark where the graph has no such task.
-pub(crate) fn name(graph: &Graph, task: TaskId) -> &str
-    ensures { result.now ≡ named_text graph.now.names (Named.Task task) }
-{
-    name_of(graph, Named::Task(task))
-}
-
-/// The name of a token, or a question mark where the graph has no such token.
-pub(crate) fn token_name(graph: &Graph, token: TokenId) -> &str
-    ensures { result.now ≡ named_text graph.now.names (Named.Token token) }
-{
-    name_of(graph, Named::Token(token))
-}
 
 /// Who does something, as journals spell it.
 pub(crate) fn actor_text(alloc: Global, actor: Actor) -> Said {

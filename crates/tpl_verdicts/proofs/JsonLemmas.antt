@@ -1,5 +1,5 @@
 -- How deep the JSON value of verdicts nests.
-use Rattle.std.proofs.Common.{◌≡◌, ℕ, suc, ◌≤◌, Option, Some, None, List, [], ◌∷◌, codes, sym, subst, arith}
+use Rattle.std.proofs.Common.{◌≡◌, ℕ, suc, ◌≤◌, Option, Some, None, List, [], ◌∷◌, codes, map, sym, subst, arith}
 use Rattle.serde_json.specs.Data.{Data, Members, depth, items_depth, object, string}
 use Rattle.serde_json.specs.View.{items_of}
 use Rattle.tpl_draft.specs.Named.{Names}
@@ -9,7 +9,8 @@ use Rattle.tpl_verify.specs.declared.verdict.Verdict.{Verdict}
 use Rattle.tpl_verify.specs.declared.verdict.Verdict.TheVariants as verdict
 use Rattle.tpl_model.specs.Claims.{Claim}
 use Rattle.tpl_verdicts.specs.Told.{Told}
-use Rattle.tpl_verdicts.specs.Json.{IsClaimData, IsNamed, IsNamedData, verdicts_data, why_data}
+use Rattle.tpl_causes.specs.declared.cause.Cause.{Cause}
+use Rattle.tpl_verdicts.specs.Json.{IsClaimData, IsNamed, IsNamedData, cause_data, verdicts_data, why_data}
 use Rattle.tpl_json.proofs.Puts.{depth_put}
 use Rattle.tpl_verdicts.specs.Lines.{AreNumbered}
 
@@ -22,21 +23,26 @@ why_depth names (NeverEndsSo t) = omega arith
 why_depth names (NeverEnds t) = omega arith
 why_depth names NeverKept = omega arith
 
+causes_depth : (causes : List Cause) → items_depth (items_of (map cause_data causes)) ≤ 1
+causes_depth [] = omega arith
+causes_depth (cause ∷ causes) = let rest = causes_depth causes in omega (arith, rest)
+
 claim_depth : (names : Names) (n : ℕ) (claim : Claim) (v : Verdict) (d : Data) → IsClaimData names n claim v d → depth d ≤ 4
 claim_depth names n claim (verdict.Holds splits None) d is = subst (λ (x : Data). depth x ≤ 4) (sym is) (omega arith)
 claim_depth names n claim (verdict.Holds splits (Some why)) d is =
     let le = why_depth names why in subst (λ (x : Data). depth x ≤ 4) (sym is) (omega arith)
 claim_depth names n claim (verdict.Fails run) d is =
-    let flat = is.1.1.flat in
-    let there : depth is.0 ≤ 2 = subst (λ (x : Data). depth x ≤ 2) (sym is.1.2) (omega arith) in
-    subst (λ (x : Data). depth x ≤ 4) (sym is.2) (omega arith)
+    let flat = is.3.1.flat in
+    let there : depth is.1 ≤ 2 = subst (λ (x : Data). depth x ≤ 2) (sym is.3.2) (omega arith) in
+    let told : items_depth (items_of is.0) ≤ 1 = subst (λ (ds : List Data). items_depth (items_of ds) ≤ 1) (sym is.2.2) (causes_depth is.2.0) in
+    subst (λ (x : Data). depth x ≤ 4) (sym is.4) (omega arith)
 claim_depth names n claim (verdict.Unknown tried) d is = subst (λ (x : Data). depth x ≤ 4) (sym is) (omega arith)
 
 -- the value for a claim is an object
 pub claim_object : (names : Names) (n : ℕ) (claim : Claim) (v : Verdict) (d : Data) → IsClaimData names n claim v d → (ms : Members) × (d ≡ object ms)
 claim_object names n claim (verdict.Holds splits None) d is = (_, is)
 claim_object names n claim (verdict.Holds splits (Some why)) d is = (_, is)
-claim_object names n claim (verdict.Fails run) d is = (_, is.2)
+claim_object names n claim (verdict.Fails run) d is = (_, is.4)
 claim_object names n claim (verdict.Unknown tried) d is = (_, is)
 
 -- with the name of the claim it nests no deeper

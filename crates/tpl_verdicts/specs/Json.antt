@@ -1,11 +1,13 @@
 -- The verdicts as a JSON value.
-use Rattle.std.specs.Prelude.{◌≡◌, ℕ, Option, Some, None, List, ◌++◌, codes, length}
+use Rattle.std.specs.Prelude.{◌≡◌, ℕ, Option, Some, None, List, ◌++◌, codes, length, map, string_bytes}
 use Rattle.serde_json.specs.Data.{Data, Members, array, boolean, member, no_members, number, object, put, string, unsigned}
 use Rattle.serde_json.specs.Read.{read}
 use Rattle.serde_json.specs.View.{items_of}
 use Rattle.tpl_model.specs.Claims.{Claim}
 use Rattle.tpl_draft.specs.Named.{Names}
 use Rattle.tpl_journal.specs.Lines.{lines, task_name}
+use Rattle.tpl_causes.specs.Causes.{AreCauses}
+use Rattle.tpl_causes.specs.declared.cause.Cause.{Cause}
 use Rattle.tpl_analyser.specs.declared.ran_out.RanOut.{RanOut}
 use Rattle.tpl_analyser.specs.declared.ran_out.RanOut.TheVariants.{Depth, Leaves, Trees}
 use Rattle.tpl_refute.specs.declared.counterexample.Counterexample.{Counterexample}
@@ -65,10 +67,25 @@ abbrev pub empty_data : (n : ℕ) → (why : Data) → (splits : ℕ) → (words
 empty_data n why splits words =
     object (member (codes "claim") (number_data n) (member (codes "empty") why (member (codes "splits") (number_data splits) (member (codes "text") (string words) (member (codes "verdict") (string (word_text Empty)) no_members)))))
 
+-- an event that led to where a claim fails: its place in the run, that of the event to which it led, and what it did
+abbrev pub cause_data : Cause → Data
+cause_data cause =
+    object (member (codes "event") (number_data cause.event) (member (codes "led_to") (number_data cause.led_to) (member (codes "says") (string (string_bytes cause.says)) no_members)))
+
+-- the values are those of causes in the run, each of which is an event of it, in its order
+abbrev pub AreCausesData : Counterexample → List Data → Type 0
+AreCausesData run values = (causes : List Cause) × AreCauses (length run.events.items) causes × (values ≡ map cause_data causes)
+
 -- the value for a claim that fails
-abbrev pub failed_data : (n : ℕ) → (run : Data) → (words : List ℕ) → Data
-failed_data n run words =
-    object (member (codes "claim") (number_data n) (member (codes "run") run (member (codes "text") (string words) (member (codes "verdict") (string (word_text Fails)) no_members))))
+abbrev pub failed_data : (n : ℕ) → (causes : List Data) → (run : Data) → (words : List ℕ) → Data
+failed_data n causes run words =
+    object (member (codes "causes") (array (items_of causes)) (member (codes "claim") (number_data n) (member (codes "run") run (member (codes "text") (string words) (member (codes "verdict") (string (word_text Fails)) no_members)))))
+
+-- the value for the claim of this number that fails in a run has that run, and causes in it
+abbrev pub IsFailedData : Names → ℕ → Claim → Counterexample → Data → Type 0
+IsFailedData names n claim run d =
+    (causes : List Data) × (there : Data) × AreCausesData run causes × IsRunData names run there
+    × (d ≡ failed_data n causes there (claim_words names claim))
 
 -- the value for a claim of which nothing is known
 abbrev pub unknown_data : (n : ℕ) → (words : List ℕ) → (tried : Data) → Data
@@ -80,8 +97,7 @@ abbrev pub IsClaimData : Names → ℕ → Claim → Verdict → Data → Type 0
 IsClaimData names n claim (verdict.Holds splits None) d = d ≡ held_data n splits (claim_words names claim)
 IsClaimData names n claim (verdict.Holds splits (Some why)) d =
     d ≡ empty_data n (why_data names why) splits (claim_words names claim)
-IsClaimData names n claim (verdict.Fails run) d =
-    (there : Data) × IsRunData names run there × (d ≡ failed_data n there (claim_words names claim))
+IsClaimData names n claim (verdict.Fails run) d = IsFailedData names n claim run d
 IsClaimData names n claim (verdict.Unknown tried) d = d ≡ unknown_data n (claim_words names claim) (tried_data tried)
 
 -- the value with the name of the claim, if it has one

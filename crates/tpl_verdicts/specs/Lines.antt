@@ -2,6 +2,9 @@
 use Rattle.std.specs.Prelude.{◌≡◌, ℕ, suc, Bool, Option, Some, None, List, [], ◌∷◌, ◌++◌, codes, decimal, flat_map, length, map, string_bytes}
 use Rattle.tpl_draft.specs.Named.{Names}
 use Rattle.tpl_journal.specs.Lines.{line, task_name}
+use Rattle.tpl_causes.specs.Causes.{AreCauses, cause_lines}
+use Rattle.tpl_causes.specs.declared.cause.Cause.{Cause}
+use Rattle.tpl_refute.specs.declared.counterexample.Counterexample.{Counterexample}
 use Rattle.tpl_verify.specs.declared.verdict.Empty as reasons
 use Rattle.tpl_verify.specs.declared.verdict.Empty.TheVariants.{NeverBegins, NamesAllEnds, NamesGivenEnds, NeverThrows, NeverEndsSo, NeverEnds, NeverKept}
 use Rattle.tpl_verify.specs.declared.verdict.Verdict.{Verdict}
@@ -39,13 +42,21 @@ abbrev pub inputs_lines : Names → List Bool → List (List ℕ)
 inputs_lines names [] = []
 inputs_lines names (value ∷ values) = (codes "where " ++ (input_words names (value ∷ values) ++ codes "\n")) ∷ []
 
--- the lines that belong to a claim: of one that holds none; of one that is empty why it is; of one that fails the run, its
--- inputs and its events, behind the last of which it fails
+-- the lines of a run: its inputs, its events, and that the claim of this number fails behind the last of them
+abbrev pub run_lines : Names → ℕ → Counterexample → List (List ℕ)
+run_lines names number run = inputs_lines names run.inputs ++ map (line names) run.events.items ++ fails_here number ∷ []
+
+-- the new lines are the old ones, and then those that tell of causes in the run, each of which is an event of it, in its order
+abbrev pub AddsCauses : Counterexample → (old new : List (List ℕ)) → Type 0
+AddsCauses run old new =
+    (causes : List Cause) × AreCauses (length run.events.items) causes × (new ≡ old ++ cause_lines (codes "event") causes)
+
+-- the lines that belong to a claim: of one that holds none; of one that is empty why it is; of one that fails the run, and how it
+-- came to where the claim fails
 abbrev pub AreLines : Names → ℕ → Verdict → List (List ℕ) → Type 0
 AreLines names number (verdict.Holds splits None) lines = lines ≡ []
 AreLines names number (verdict.Holds splits (Some why)) lines = lines ≡ why_line names why ∷ []
-AreLines names number (verdict.Fails run) lines =
-    lines ≡ inputs_lines names run.inputs ++ map (line names) run.events.items ++ fails_here number ∷ []
+AreLines names number (verdict.Fails run) lines = AddsCauses run (run_lines names number run) lines
 AreLines names number (verdict.Unknown tried) lines = Unit {0}
 
 -- the name of a claim in quotes, as a terminal shows it, behind a space

@@ -5,9 +5,11 @@ ghost use Rattle.serde_json.specs.Data.{member, no_members, object, string, Memb
 ghost use Rattle.serde_json.specs.View.{view};
 ghost use Rattle.tpl_graph.specs.Prelude.{Fits};
 ghost use Rattle.tpl_journal.specs.Prelude.{CanSpell};
-ghost use Rattle.tpl_verdicts.specs.Prelude.{AreNumbered, AreRight, IsClaimData, IsJson, IsNamed, IsNamedData, IsRight, IsRunData, all_told, empty_data, failed_data, held_data, ran_out_word, sums_data, tried_data, unknown_data, verdicts_data, why_data};
+ghost use Rattle.tpl_reasons.specs.Prelude.{claim_words};
+ghost use Rattle.tpl_verdicts.specs.Prelude.{AreNumbered, AreRight, IsClaimData, IsFailedData, IsJson, IsNamed, IsNamedData, IsRight, IsRunData, all_told, empty_data, failed_data, held_data, ran_out_word, sums_data, tried_data, unknown_data, verdicts_data, why_data};
 ghost use Rattle.tpl_verify.specs.Prelude.{AreFirst, IsEmpty};
 
+use crate::causes::causes_value;
 use crate::judgement::{Judgement, Judgements};
 use crate::reason::name_of;
 use crate::sums::sums_of;
@@ -122,10 +124,43 @@ fn empty_value(
 }
 
 /// What is said of a claim that fails.
-fn failed_value(alloc: Global, number: usize, run: Value, text: String) -> Result<Value, AllocError>
-    ensures { IfOk result (λ v. view v ≡ failed_data number (view run) (string_bytes text)) }
+fn failed_value(
+    alloc: Global,
+    number: usize,
+    causes: Vec<Value>,
+    run: Value,
+    text: String,
+) -> Result<Value, AllocError>
+    ensures { IfOk result (λ v.
+        view v ≡ failed_data number (map view causes.items) (view run) (string_bytes text)) }
 {
-    json!(in alloc; {"claim": number, "run": run, "text": text, "verdict": "fails"})
+    json!(in alloc; {
+        "causes": causes, "claim": number, "run": run, "text": text, "verdict": "fails"
+    })
+}
+
+/// What is said of a claim with these words that fails in this run.
+fn failing_value(
+    alloc: Global,
+    judgement: &Judgement<'_>,
+    run: &Counterexample,
+    text: String,
+) -> Result<Value, AllocError>
+    requires events { All (CanSpell judgement.now.graph.now.graph) run.now.events.items }
+    requires text { string_bytes text
+        ≡ claim_words judgement.now.graph.now.names judgement.now.claim.now }
+    ensures { IfOk result (λ v. IsFailedData judgement.now.graph.now.names judgement.now.number
+        judgement.now.claim.now run.now (view v)) }
+{
+    let Judgement {
+        graph,
+        claim,
+        number,
+        ..
+    } = *judgement;
+    let causes = causes_value(alloc, graph, claim, run)?;
+    let value = run_value(alloc, graph, run)?;
+    failed_value(alloc, number, causes, value, text)
 }
 
 /// What is said of a claim of which nothing is known.
@@ -166,10 +201,7 @@ fn claim_value(alloc: Global, judgement: &Judgement<'_>) -> Result<Value, AllocE
             let empty = why_value(alloc, graph, claim, *why)?;
             empty_value(alloc, number, empty, *splits, text)
         }
-        Verdict::Fails(run) => {
-            let run = run_value(alloc, graph, run)?;
-            failed_value(alloc, number, run, text)
-        }
+        Verdict::Fails(run) => failing_value(alloc, judgement, run, text),
         Verdict::Unknown(tried) => {
             let tried = tried_value(alloc, *tried)?;
             unknown_value(alloc, number, text, tried)

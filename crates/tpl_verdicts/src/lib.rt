@@ -15,6 +15,7 @@
 //!   number, so that a document can give its claims names without changing an answer that a script reads.
 #![tactic(auto)]
 
+mod causes;
 mod entries;
 mod entry;
 mod html;

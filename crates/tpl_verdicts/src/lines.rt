@@ -3,13 +3,14 @@
 ghost use Rattle.std.specs.Prelude.{◌≡◌, ◌++◌, ◌∷◌, [], map, IfOk, OnOk, string_bytes, All};
 ghost use Rattle.tpl_graph.specs.Prelude.{Fits};
 ghost use Rattle.tpl_journal.specs.Prelude.{CanSpell, line};
-ghost use Rattle.tpl_verdicts.specs.Prelude.{AreLines, IsRight, inputs_lines};
+ghost use Rattle.tpl_verdicts.specs.Prelude.{AreLines, IsRight, inputs_lines, run_lines};
 
+use crate::causes::add_causes_of;
 use crate::judgement::Judgement;
 use crate::reason::why_line;
 use std::alloc::{AllocError, Global};
 use std::slice;
-use tpl_graph::Graph;
+use tpl_graph::{Claim, Graph};
 use tpl_journal::spells_run;
 use tpl_model::{Event, Inputs};
 use tpl_reasons::{claim_words, input_words, obstacle_words, tried_words};
@@ -96,9 +97,27 @@ fn add_events(
 }
 
 /// The run, behind whose last event the claim of this number fails.
+fn run_lines(
+    alloc: Global,
+    graph: &Graph,
+    number: usize,
+    run: &Counterexample,
+) -> Result<Vec<String>, AllocError>
+    requires { All (CanSpell graph.now.graph) run.now.events.items }
+    ensures { IfOk result (λ lines.
+        map string_bytes lines.items ≡ run_lines graph.now.names number run.now) }
+{
+    let mut lines = input_lines(alloc, graph, &run.inputs)?;
+    add_events(&mut lines, alloc, graph, &run.events)?;
+    lines.push(format!(in alloc; "claim {number} fails here\n")?)?;
+    Ok(lines)
+}
+
+/// The run, behind whose last event the claim of this number fails, and how it came there.
 fn failing_lines(
     alloc: Global,
     graph: &Graph,
+    claim: &Claim,
     number: usize,
     run: &Counterexample,
 ) -> Result<Vec<String>, AllocError>
@@ -106,9 +125,8 @@ fn failing_lines(
     ensures { IfOk result (λ lines. AreLines graph.now.names number (Verdict.Fails run.now)
         (map string_bytes lines.items)) }
 {
-    let mut lines = input_lines(alloc, graph, &run.inputs)?;
-    add_events(&mut lines, alloc, graph, &run.events)?;
-    lines.push(format!(in alloc; "claim {number} fails here\n")?)?;
+    let mut lines = run_lines(alloc, graph, number, run)?;
+    add_causes_of(&mut lines, alloc, graph, claim, run)?;
     Ok(lines)
 }
 
@@ -134,7 +152,7 @@ pub(crate) fn lines_of(alloc: Global, judgement: &Judgement<'_>) -> Result<Vec<S
             let line = why_line(alloc, graph, claim, *empty)?;
             one_line(alloc, line)
         }
-        Verdict::Fails(run) => failing_lines(alloc, graph, number, run),
+        Verdict::Fails(run) => failing_lines(alloc, graph, claim, number, run),
         Verdict::Unknown(tried) => unknown_lines(alloc, judgement, *tried),
     }
 }

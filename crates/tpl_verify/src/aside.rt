@@ -1,8 +1,12 @@
 //! What is told beside the answer, for people. No answer depends on it.
 
 use crate::Verdict;
+use crate::finding::Found;
+use crate::search::Search;
 use std::alloc::{AllocError, Global};
+use tpl_causes::{causes_of, told};
 use tpl_commands::Listen;
+use tpl_reader::Document;
 
 /// Says how the search for a claim has ended.
 pub(crate) fn tell_end<L: Listen>(
@@ -36,6 +40,26 @@ pub(crate) fn tell_run<L: Listen>(
     };
     listener.tells(text.as_str());
     Ok(())
+}
+
+/// Says how the run came to where the claim fails, where reasons are asked for.
+pub(crate) fn tell_causes<L: Listen>(
+    alloc: Global,
+    search: Search,
+    document: &Document,
+    found: &Found,
+    listener: L,
+) -> Result<(), AllocError> {
+    let claim = document.claims.get(found.number.saturating_sub(1));
+    match claim {
+        Some(claim) if search.explain => {
+            let (graph, run) = (&document.graph, &found.run);
+            let causes = causes_of(alloc, graph, claim, &run.inputs, &run.events)?;
+            listener.tells(told(alloc, "line", &causes)?.as_str());
+            Ok(())
+        }
+        _ => Ok(()),
+    }
 }
 
 /// Says how many claims there are, where the one that is asked for isn't there.

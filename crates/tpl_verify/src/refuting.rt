@@ -8,7 +8,7 @@ ghost use Rattle.tpl_reader.specs.Prelude.{Spells, doc_of, longest};
 ghost use Rattle.tpl_verify.specs.Prelude.{IsFound, IsSearched, Refuted, Searches, ShowsFailure, Unrefuted};
 
 use crate::Attend;
-use crate::aside::{tell_missing, tell_run};
+use crate::aside::{tell_causes, tell_missing, tell_run};
 use crate::finding::{Found, find};
 use crate::journal::journal_text;
 use crate::search::{Search, has_claim};
@@ -45,6 +45,7 @@ fn refutation<L: Listen>(
     let events = found.run.events.as_slice();
     let journal = journal_text(alloc, &document.graph, events)?;
     tell_run(alloc, found.number, journal.as_str(), listener)?;
+    tell_causes(alloc, search, document, &found, listener)?;
     let text = text_with(alloc, bytes, document, &found.run.inputs, journal)?;
     if text.len() > LONGEST {
         return Ok(Answer {
@@ -121,7 +122,7 @@ impl<L: Listen, A: Attend> Command for Refuting<'_, L, A> {
 ///
 /// The text is made whole before its first byte is written. A failed read ends the reading, and then nothing is
 /// written; after a failed write no more is. The listener is told the run itself, with the place where the claim
-/// fails; and where the document can't be read, why. Who attends is told of the verdict on each claim that was searched.
+/// fails, and where reasons are asked for how it came there; and where the document can't be read, why. Who attends is told of the verdict on each claim that was searched.
 pub fn refute_document<L: Listen, A: Attend, I: Read, O: Write>(
     alloc: Global,
     search: Search,

@@ -1,6 +1,7 @@
 using System;
 using System.Collections.Generic;
 using System.Linq;
+using System.Text.RegularExpressions;
 
 namespace TaskGraph.Reading
 {
@@ -10,6 +11,9 @@ namespace TaskGraph.Reading
         private const string Indent = "  ";
         private const int Column = 44;
         private const int TaskWord = 2;
+
+        // an event of a run, which a worker or somebody outside does
+        private static readonly Regex Event = new Regex("^[wo][0-9]+ ");
 
         private readonly Dictionary<string, string> lines;
 
@@ -23,8 +27,9 @@ namespace TaskGraph.Reading
 
         private string OfLine(string line)
         {
-            string[] words = line.Trim().Split(' ');
-            bool isEvent = line.StartsWith(Indent, StringComparison.Ordinal) && words.Length > TaskWord;
+            string text = line.Trim();
+            string[] words = text.Split(' ');
+            bool isEvent = line.StartsWith(Indent, StringComparison.Ordinal) && Event.IsMatch(text) && words.Length > TaskWord;
             return isEvent && lines.TryGetValue(words[TaskWord], out string origin)
                 ? line.PadRight(Column) + "// " + origin
                 : line;

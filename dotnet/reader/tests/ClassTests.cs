@@ -191,8 +191,9 @@ namespace TaskGraph.Reading.Tests
         {
             var load = new DocumentTask("Load", DocumentTask.Root) { Body = new List<Statement>(), Origin = "A.cs:7 in A.B" };
             var document = new ReadDocument(new[] { load }, new string[0], new Dictionary<PathToken, string>(), null);
-            string told = new SourceLines(document).Beside("claim 1 fails: x\n  w1 begin Load\n  claim 1 fails here");
-            Check.Equal("claim 1 fails: x\n" + "  w1 begin Load".PadRight(44) + "// A.cs:7 in A.B\n  claim 1 fails here", told);
+            string told = new SourceLines(document).Beside("claim 1 fails: x\n  w1 begin Load\n  claim 1 fails here\n    event 1: Load begins");
+            string marked = "  w1 begin Load".PadRight(44) + "// A.cs:7 in A.B";
+            Check.Equal("claim 1 fails: x\n" + marked + "\n  claim 1 fails here\n    event 1: Load begins", told);
         }
 
         public static void EndsOfARunAreRead()

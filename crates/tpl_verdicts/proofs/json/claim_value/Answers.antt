@@ -3,8 +3,8 @@ use Rattle.tpl_verify.specs.declared.verdict.Verdict.{Verdict}
 use Rattle.tpl_verify.specs.Verdicts.{IsVerdict}
 use Rattle.tpl_verdicts.proofs.json.claim_value.Goals as goal
 
-pub run_value-requires : goal.run_value-requires
-run_value-requires c =
+pub failing_value-requires-clause-events : goal.failing_value-requires-clause-events
+failing_value-requires-clause-events c =
     let g = c.args.judgement.now.graph.now.graph in
     let refutes = subst (λ (v : Verdict). IsVerdict c.requires.verdict.0 g c.args.judgement.now.claim.now v) c.in-Fails.is c.requires.verdict.1 in
     c.spells_run.ensures g _ _ refutes.run refutes.seats

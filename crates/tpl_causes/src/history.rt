@@ -1,14 +1,13 @@
-//! How a run came to where a claim fails, event by event.
+//! What the events of a run did, in words, by how the run stands at its end.
 
-use crate::auditing::played;
-use crate::words::{Said, name, token_name};
-use std::alloc::Global;
-use tpl_audit::{Failure, causes};
+use crate::naming::{name, token_name};
+use std::alloc::{AllocError, Global};
 use tpl_graph::{Graph, Role};
-use tpl_journal::read_journal;
 use tpl_machine::Core;
-use tpl_model::{Act, Answer, Event, Final, Label, Property, Status, TaskId};
-use tpl_reader::Document;
+use tpl_model::{Act, Answer, Final, Label, Options, Status, TaskId};
+
+/// A sentence; out of memory is the only error.
+pub(crate) type Said = Result<String, AllocError>;
 
 /// How a task has ended, if it has.
 fn end_of<C: Core>(run: &C, task: TaskId) -> Option<Final> {
@@ -122,6 +121,33 @@ fn leave_words<C: Core>(alloc: Global, run: &C, task: TaskId) -> Said {
     }
 }
 
+/// How a task ended, as a verb.
+fn end_verb(end: Final) -> &'static str {
+    match end {
+        Final::RanToCompletion => "ran",
+        Final::Canceled => "was canceled",
+        Final::Faulted => "faulted",
+    }
+}
+
+/// How the antecedent of a continuation may end for it to start, as verbs.
+fn allowed_verbs(options: Options) -> &'static str {
+    let (ran, canceled, faulted) = (
+        options.allows(Final::RanToCompletion),
+        options.allows(Final::Canceled),
+        options.allows(Final::Faulted),
+    );
+    match (ran, canceled, faulted) {
+        (true, true, false) => "ran or was canceled",
+        (true, false, true) => "ran or faulted",
+        (true, false, false) => "ran",
+        (false, true, true) => "was canceled or faulted",
+        (false, true, false) => "was canceled",
+        (false, false, true) => "faulted",
+        _ => "ended",
+    }
+}
+
 /// That a task was canceled before it began.
 fn drop_words<C: Core>(alloc: Global, run: &C, task: TaskId) -> Said {
     let graph = run.graph();
@@ -135,9 +161,10 @@ fn drop_words<C: Core>(alloc: Global, run: &C, task: TaskId) -> Said {
         .and_then(|before| Some((before, end_of(run, before)?)));
     match antecedent {
         Some((before, end)) if !graph.options(task).allows(end) => {
-            let (before, end) = (name(graph, before), end.name());
+            let before = name(graph, before);
+            let (allowed, end) = (allowed_verbs(graph.options(task)), end_verb(end));
             format!(in alloc;
-                "{label} is canceled: its options don't allow that {before} ended {end}"
+                "{label} is canceled: it starts only if {before} {allowed}, and it {end}"
             )
         }
         _ => format!(in alloc; "{label} is canceled before it begins, since {token} is requested"),
@@ -167,7 +194,7 @@ fn settle_words<C: Core>(alloc: Global, run: &C, task: TaskId) -> Said {
 }
 
 /// What an event did, by the run in which it is and the event to which it led.
-fn event_words<C: Core>(alloc: Global, run: &C, act: Act, next: Act) -> Said {
+pub(crate) fn event_words<C: Core>(alloc: Global, run: &C, act: Act, next: Act) -> Said {
     let graph = run.graph();
     match act {
         Act::Request(token) => {
@@ -192,88 +219,4 @@ fn event_words<C: Core>(alloc: Global, run: &C, act: Act, next: Act) -> Said {
         Act::Drop(task) => drop_words(alloc, run, task),
         Act::Settle(task) => settle_words(alloc, run, task),
     }
-}
-
-/// A place, or another where there is none.
-fn place_or(place: Option<u32>, other: usize) -> usize {
-    match place {
-        Some(place) => place as usize,
-        None => other,
-    }
-}
-
-/// The place at which a task began, or another where it hasn't.
-fn began_or<C: Core>(run: &C, task: TaskId, other: usize) -> usize {
-    if (task.0 as usize) >= run.graph().len() {
-        return other;
-    }
-    place_or(run.began(task), other)
-}
-
-/// The place at which a task ended, or another where it hasn't.
-fn ended_or<C: Core>(run: &C, task: TaskId, other: usize) -> usize {
-    if (task.0 as usize) >= run.graph().len() {
-        return other;
-    }
-    place_or(run.ended(task), other)
-}
-
-/// Of which events it is told how the run came to them, where a property fails at this place: the begins of both tasks
-/// that exclude each other, the end of a task whose exception nobody reads or that never began, else the one at the
-/// place. 0 stands for none.
-fn places<C: Core>(run: &C, body: Property, place: usize) -> [usize; 2] {
-    match body {
-        Property::Excludes(one, other) => {
-            [began_or(run, one, place), began_or(run, other, place)]
-        }
-        Property::Observed(task) | Property::Runs(task) => [ended_or(run, task, place), 0],
-        _ => [place, 0],
-    }
-}
-
-/// At most so many events are told, the last ones.
-const MOST_TOLD: usize = 20;
-
-/// How the run came to where it stands: a line for each event that led to another, or is the one that is asked about.
-/// Nothing, where that is one alone.
-fn led_text<C: Core>(alloc: Global, run: &C, events: &[Event], led: &[usize]) -> Said {
-    let mut left = led.iter().filter(|place| **place > 0).count();
-    if left < 2 {
-        return Ok(String::new(alloc));
-    }
-    let mut text = String::from_str(alloc, "how it came to this:\n")?;
-    for (index, event) in events.iter().enumerate() {
-        let place = led.get(index).copied().unwrap_or(0);
-        let Some(next) = events.get(place.wrapping_sub(1)) else {
-            continue;
-        };
-        if left <= MOST_TOLD {
-            let words = event_words(alloc, run, event.act, next.act)?;
-            let line = index + 1;
-            text.push_str(format!(in alloc; "  line {line}: {words}\n")?.as_str())?;
-        }
-        left = left.saturating_sub(1);
-    }
-    Ok(text)
-}
-
-/// How the journal's run came to where a claim fails, an event on each line. Nothing, where no event led there.
-pub(crate) fn causes_text(alloc: Global, document: &Document, failure: Failure) -> Said {
-    let (Some(inputs), Some(claim)) = (
-        document.inputs(),
-        document.claims.get(failure.claim.saturating_sub(1)),
-    ) else {
-        return Ok(String::new(alloc));
-    };
-    let Ok(events) = read_journal(alloc, &document.graph, document.journal.as_str()) else {
-        return Ok(String::new(alloc));
-    };
-    let events = &events[..failure.place.min(events.len())];
-    let Some(replay) = played(alloc, document, events)? else {
-        return Ok(String::new(alloc));
-    };
-    let run = &replay.run;
-    let places = places(run, claim.body(), failure.place);
-    let led = causes(alloc, &document.graph, inputs, events, &places)?;
-    led_text(alloc, run, events, &led)
 }
