@@ -1,4 +1,4 @@
--- What the paths of a body know: tokens that are requested, and facts of the attached children that they start.
+-- What the paths of a body that waits nowhere know: tokens that are requested, and facts of the attached children that they start.
 use Rattle.std.specs.Prelude.{ℕ, ◌&&◌, ◌||◌, not, Bool, true, false, Option, Some, None, nat_eq}
 use Rattle.tpl_model.specs.declared.finals.Final.{Final}
 use Rattle.tpl_model.specs.declared.finals.Final.TheVariants.{RanToCompletion, Canceled, Faulted}
@@ -112,11 +112,12 @@ abbrev mutual
   behind w (Cancel k) r = both (λ s. when (not (w.known.quiet k)) (with_tokens (w.linked k) s)) r
   behind w (Start c) r = behind_start (w.child c) r
   behind w Observe r = r
-  behind w (Work site may_fail) r = r
+  behind w (Work site may_fail may_cancel) r = r
   behind w (If i first second) r =
       join (both (when (w.known.possible i true)) (through w first r)) (both (when (w.known.possible i false)) (through w second r))
   behind w (When f first second) r =
       join (both (when (w.known.subject f)) (through w first r)) (both (when (another w.known f)) (through w second r))
+  behind w s r = nowhere
 
 -- what the paths have in common that are asked for at the statements of a script
 abbrev mutual
@@ -136,7 +137,7 @@ abbrev pub ending_at : (Outcome → Reached → Option Knowledge) → Reading �
 ending_at pick w Return r = pick Returned r
 ending_at pick w (Throw l) r = pick (Threw (Thrown (record { 0 = l }))) r
 ending_at pick w (Check k) r = when (not (w.known.quiet k)) (pick (cancellation w.known.own k) (both (with_tokens (w.linked k)) r))
-ending_at pick w (Work site may_fail) r =
+ending_at pick w (Work site may_fail may_cancel) r =
     when (may_fail && not (w.known.sure site)) (pick (Threw (WorkFailed (record { 0 = site }))) r)
 ending_at pick w s r = None
 

@@ -1,4 +1,5 @@
--- The paths of a body, where each statement chooses by itself.
+-- The paths of a body that waits nowhere, where each statement chooses by itself. No path passes a statement that waits,
+-- tries, or throws again.
 use Rattle.std.specs.Prelude.{◌≡◌, ℕ, ◌⊎◌, ◌||◌, Bool, true, false, if◌then◌else◌, Option, Some, None, List, [], ◌∷◌, nat_eq}
 use Rattle.tpl_model.specs.declared.finals.Final.{Final}
 use Rattle.tpl_model.specs.declared.status.Label.{Label}
@@ -41,12 +42,13 @@ GoesOn w (Check k) more left = more ≡ left
 GoesOn w (Cancel k) more left = (w.quiet k ≡ false) × (more ≡ left)
 GoesOn w (Start c) more left = more ≡ left
 GoesOn w Observe more left = more ≡ left
-GoesOn w (Work site may_fail) more left = more ≡ left
+GoesOn w (Work site may_fail may_cancel) more left = more ≡ left
 GoesOn w (If i first second) more left =
     ((w.possible i true ≡ true) × (followed_by first more ≡ left)) ⊎ ((w.possible i false ≡ true) × (followed_by second more ≡ left))
 GoesOn w (When f first second) more left =
     ((w.subject f ≡ true) × (followed_by first more ≡ left))
     ⊎ ((e : Final) × (is_final f e ≡ false) × (w.subject e ≡ true) × (followed_by second more ≡ left))
+GoesOn w s more left = ⊥
 
 -- a path ends at the statement s with this outcome
 abbrev pub EndsAt : Known → Statement → Outcome → Type 0
@@ -56,9 +58,10 @@ EndsAt w (Check k) outcome = (w.quiet k ≡ false) × (outcome ≡ cancellation 
 EndsAt w (Cancel k) outcome = ⊥
 EndsAt w (Start c) outcome = ⊥
 EndsAt w Observe outcome = ⊥
-EndsAt w (Work site may_fail) outcome = (may_fail ≡ true) × (w.sure site ≡ false) × (outcome ≡ Threw (WorkFailed (record { 0 = site })))
+EndsAt w (Work site may_fail may_cancel) outcome = (may_fail ≡ true) × (w.sure site ≡ false) × (outcome ≡ Threw (WorkFailed (record { 0 = site })))
 EndsAt w (If i first second) outcome = ⊥
 EndsAt w (When f first second) outcome = ⊥
+EndsAt w s outcome = ⊥
 
 -- passing these statements, the last one first, leads from the body to what is left
 abbrev pub Passes : Known → Statements → List Statement → Statements → Type 0

@@ -23,12 +23,35 @@ pub enum Stmt {
     Start(TaskId),
     /// Reads the exception of the task that this one continues.
     Observe,
-    /// A job at the site, and whether it may fail.
-    Work(SiteId, bool),
+    /// A job at the site, whether it may fail, and whether it may be canceled.
+    Work(SiteId, bool, bool),
     /// The first list where the input is true, else the second.
     If(InputId, Body, Body),
     /// The first list where the task that this one continues ended in this way, else the second.
     When(Final, Body, Body),
+    /// Goes on when all of these tasks have ended (`await`).
+    Await(Vec<TaskId>),
+    /// The same, for a thread that waits (`Task.WaitAll`).
+    Wait(Vec<TaskId>),
+    /// Goes on when one of these tasks has ended: with the first list if it is this one, else with the
+    /// second (`await Task.WhenAny`).
+    AwaitAny(Vec<TaskId>, Option<TaskId>, Body, Body),
+    /// The list, with what catches and what follows what leaves it.
+    Try(Body, Handlers),
+    /// Throws again what the nearest catch around it caught.
+    Rethrow,
+}
+
+/// What stands behind the list of a try.
+#[cycle(body)]
+#[derive(Drop)]
+pub struct Handlers {
+    /// `catch (OperationCanceledException)`.
+    pub canceled: Option<Body>,
+    /// `catch (Exception)`.
+    pub caught: Option<Body>,
+    /// `finally`; empty where there is none.
+    pub finally: Body,
 }
 
 /// A list of statements, which contracts see without where it lies in memory.

@@ -10,6 +10,24 @@ pub enum Outcome {
     Returned,
     /// An exception left it.
     Threw(Label),
-    /// It acknowledged a cancellation request for its own token.
+    /// It acknowledged a cancellation request for its own token. Of an async method: a cancellation left it.
     Acknowledged,
+}
+
+/// What was raised in a body, by a statement, a job or the task that it awaited.
+#[derive(Clone, Copy, PartialEq, Eq, Debug)]
+pub enum Raised {
+    /// An exception that is no OperationCanceledException.
+    Exception(Label),
+    /// An OperationCanceledException.
+    Cancellation(Label),
+}
+
+/// What goes outwards in a body, from try to try.
+#[derive(Clone, Copy, PartialEq, Eq, Debug)]
+pub enum Outgoing {
+    /// A `return`.
+    Returning,
+    /// What was raised.
+    Raising(Raised),
 }

@@ -74,7 +74,7 @@ fn start_at(statement: &Stmt, view: &View, child: TaskId) -> Starts
             goes_on: false,
             started: false,
         },
-        Stmt::Check(_) | Stmt::Observe | Stmt::Work(_, _) => Starts {
+        Stmt::Check(_) | Stmt::Observe | Stmt::Work(_, _, _) => Starts {
             goes_on: true,
             started: false,
         },
@@ -96,6 +96,14 @@ fn start_at(statement: &Stmt, view: &View, child: TaskId) -> Starts
             let otherwise = start_in(second, view, child).only_if(view.may_differ(*status));
             so.or(otherwise)
         }
+        Stmt::Await(_)
+        | Stmt::Wait(_)
+        | Stmt::AwaitAny(_, _, _, _)
+        | Stmt::Try(_, _)
+        | Stmt::Rethrow => Starts {
+            goes_on: false,
+            started: false,
+        },
     }
 }
 
@@ -124,7 +132,7 @@ fn add_starts_at(statement: &Stmt, view: &View, found: &mut TaskSet) -> bool
 {
     match statement {
         Stmt::Return | Stmt::Throw(_) => false,
-        Stmt::Check(_) | Stmt::Observe | Stmt::Work(_, _) => true,
+        Stmt::Check(_) | Stmt::Observe | Stmt::Work(_, _, _) => true,
         Stmt::Cancel(token) => !view.is_quiet(*token),
         Stmt::Start(child) => {
             add_child(*child, found);
@@ -140,6 +148,11 @@ fn add_starts_at(statement: &Stmt, view: &View, found: &mut TaskSet) -> bool
             let otherwise = add_starts_if(view.may_differ(*status), second, view, found);
             so || otherwise
         }
+        Stmt::Await(_)
+        | Stmt::Wait(_)
+        | Stmt::AwaitAny(_, _, _, _)
+        | Stmt::Try(_, _)
+        | Stmt::Rethrow => false,
     }
 }
 

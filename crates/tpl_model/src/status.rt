@@ -4,7 +4,7 @@ ghost use Rattle.std.specs.Prelude.{◌≡◌, ◌↔◌, IsTrue, Some};
 ghost use Rattle.tpl_model.specs.Prelude.{IsSeat, status_name};
 
 use crate::finals::Final;
-use crate::ids::{LabelId, SiteId, TokenId, Worker};
+use crate::ids::{LabelId, SiteId, TaskId, TokenId, Worker};
 use crate::limits::{MOST_OUTSIDE, MOST_WORKERS};
 use std::fmt;
 
@@ -58,6 +58,10 @@ pub enum Label {
     OperationCanceled(TokenId),
     /// A job failed.
     WorkFailed(SiteId),
+    /// A job was canceled.
+    WorkCanceled(SiteId),
+    /// A task that was awaited had been canceled (TaskCanceledException).
+    TaskCanceled(TaskId),
 }
 
 /// Who does something: a worker thread, or somebody outside with a number from 1 on.
@@ -84,4 +88,6 @@ impl Actor {
 pub enum Answer {
     Done,
     Failed,
+    /// It threw an OperationCanceledException of no token of the graph.
+    Canceled,
 }
