@@ -72,10 +72,13 @@ pub opening_not_left : (k : TaskKind) (s r : Bool) → opening k s r ≡ Waiting
 opening_not_left k s r e = elim (opening_waits k s r) [ inl a ↦ absurd (cc) | inr b ↦ elim b [ inl c ↦ absurd (cc) | inr d ↦ absurd (cc) ] ]
 
 -- a running task
+pub status_facts : (g : TaskGraph) (v : List Bool) (h : List Event) (t : ℕ) → status g v h t ≡ Running → (ending g v h t ≡ None) × (left_body h t ≡ false) × (is_some (begun h t) ≡ true)
+status_facts g v h t r =
+    let b = running_begun (ending g v h t) (left_body h t) (begun h t) (opening (kind g t) (started g v h t) (released h t)) (opening_not_running (kind g t) (started g v h t) (released h t)) r in
+    (status_open (ending g v h t) (left_body h t) (begun h t) (opening (kind g t) (started g v h t) (released h t)) Running r refl, b.0, b.1)
+
 pub running_facts : (g : TaskGraph) (v : List Bool) (h : List Event) (a : Actor) (t : ℕ) → IsRunning g v h a t → (ending g v h t ≡ None) × (left_body h t ≡ false) × (is_some (begun h t) ≡ true)
-running_facts g v h a t r =
-    let b = running_begun (ending g v h t) (left_body h t) (begun h t) (opening (kind g t) (started g v h t) (released h t)) (opening_not_running (kind g t) (started g v h t) (released h t)) r.status in
-    (status_open (ending g v h t) (left_body h t) (begun h t) (opening (kind g t) (started g v h t) (released h t)) Running r.status refl, b.0, b.1)
+running_facts g v h a t r = status_facts g v h t r.status
 
 pub waiting_facts : (g : TaskGraph) (v : List Bool) (h : List Event) (t : ℕ) (s : Status) → status g v h t ≡ s → (s ≡ WaitingToRun) ⊎ (s ≡ WaitingForActivation) → (ending g v h t ≡ None) × (left_body h t ≡ false) × (begun h t ≡ None) × (opening (kind g t) (started g v h t) (released h t) ≡ s)
 waiting_facts g v h t s e w = waiting_open (ending g v h t) (left_body h t) (begun h t) (opening (kind g t) (started g v h t) (released h t)) s e w

@@ -1,7 +1,7 @@
 -- Paths from their first statement on.
 use Rattle.std.proofs.Common.{◌≡◌, ◌⊎◌, inl, inr, List, [], ◌∷◌, ◌++◌, reverse, refl, sym, ap, ◌∙◌, subst}
 use Rattle.std.proofs.lemmas.List.{reverse-append}
-use Rattle.tpl_model.specs.Statements.{Statement, Return, Throw, Cancel, If, When, Statements, Nothing, ◌⨾◌, followed_by}
+use Rattle.tpl_model.specs.Statements.{Statement, Return, Throw, Check, Cancel, Start, Observe, Work, If, When, Statements, Nothing, ◌⨾◌, followed_by}
 use Rattle.tpl_model.specs.Paths.{Known, GoesOn, Passes}
 
 -- passing these statements, the first one first
@@ -65,7 +65,11 @@ goes_within w (When f x y) a b mid g =
       | inl q ↦ inl (q.0, sym (ahead_assoc x a b) ∙ ap (λ z. followed_by z b) q.1)
       | inr q ↦ inr (q.0, q.1, q.2, sym (ahead_assoc y a b) ∙ ap (λ z. followed_by z b) q.3)
     ]
-goes_within w s a b mid g = ap (λ z. followed_by z b) g
+goes_within w (Check k) a b mid g = ap (λ z. followed_by z b) g
+goes_within w (Start d) a b mid g = ap (λ z. followed_by z b) g
+goes_within w Observe a b mid g = ap (λ z. followed_by z b) g
+goes_within w (Work i m n) a b mid g = ap (λ z. followed_by z b) g
+goes_within w s a b mid g = g
 
 goes_back : (w : Known) (s : Statement) (a b mid : Statements) → GoesOn w s (followed_by a b) mid → (m : Statements) × GoesOn w s a m × (mid ≡ followed_by m b)
 goes_back w Return a b mid g = absurd g
@@ -81,7 +85,11 @@ goes_back w (When f x y) a b mid g =
       | inl q ↦ (followed_by x a, inl (q.0, refl), sym q.1 ∙ sym (ahead_assoc x a b))
       | inr q ↦ (followed_by y a, inr (q.0, q.1, q.2, refl), sym q.3 ∙ sym (ahead_assoc y a b))
     ]
-goes_back w s a b mid g = (a, refl, sym g)
+goes_back w (Check k) a b mid g = (a, refl, sym g)
+goes_back w (Start d) a b mid g = (a, refl, sym g)
+goes_back w Observe a b mid g = (a, refl, sym g)
+goes_back w (Work i m n) a b mid g = (a, refl, sym g)
+goes_back w s a b mid g = absurd g
 
 -- a walk of two scripts
 pub walks_within : (w : Known) (a b : Statements) (ps : List Statement) (left : Statements) → Walks w a ps left → Walks w (followed_by a b) ps (followed_by left b)

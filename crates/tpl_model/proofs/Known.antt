@@ -137,13 +137,14 @@ mutual
       )
   behind_under w (Start c) r q p = start_under (w.child c) r q p
   behind_under w Observe r q p = p
-  behind_under w (Work site may_fail) r q p = p
+  behind_under w (Work site may_fail may_cancel) r q p = p
   behind_under w (If i a b) r q p =
       both_under (w.known.possible i true) (w.known.possible i false) (through w a r) (through w b r) (through w a q) (through w b q)
       (through_under w a r q p) (through_under w b r q p)
   behind_under w (When f a b) r q p =
       both_under (w.known.subject f) (another w.known f) (through w a r) (through w b r) (through w a q) (through w b q)
       (through_under w a r q p) (through_under w b r q p)
+  behind_under w s r q p = (tt, tt)
 
 -- fewer paths give more at each statement
 abbrev pub Falls : (Statement → Reached → Option Knowledge) → Type 0

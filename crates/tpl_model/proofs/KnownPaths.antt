@@ -136,9 +136,9 @@ module _ (ask : Statement → Reached → Option Knowledge) (w : Reading) (falls
   next Observe ps more left g c h =
       subst (λ z. Covers ask w (Observe ⨾ more) (on_path w tokens chosen ps) z (on_path w tokens chosen (Observe ∷ ps))) g
       (covers_next ask w falls Observe more (on_path w tokens chosen ps) (on_path w tokens chosen (Observe ∷ ps)) (all_self (on_path w tokens chosen ps)))
-  next (Work site m) ps more left g c h =
-      subst (λ z. Covers ask w (Work site m ⨾ more) (on_path w tokens chosen ps) z (on_path w tokens chosen (Work site m ∷ ps))) g
-      (covers_next ask w falls (Work site m) more (on_path w tokens chosen ps) (on_path w tokens chosen (Work site m ∷ ps)) (all_self (on_path w tokens chosen ps)))
+  next (Work site m n) ps more left g c h =
+      subst (λ z. Covers ask w (Work site m n ⨾ more) (on_path w tokens chosen ps) z (on_path w tokens chosen (Work site m n ∷ ps))) g
+      (covers_next ask w falls (Work site m n) more (on_path w tokens chosen ps) (on_path w tokens chosen (Work site m n ∷ ps)) (all_self (on_path w tokens chosen ps)))
   next (If i x y) ps more left g c h = by_list g
     where
       r : Reached
@@ -176,6 +176,7 @@ module _ (ask : Statement → Reached → Option Knowledge) (w : Reading) (falls
           let o = is_another w.known f q.0 q.1 q.2 in
           subst (λ z. Covers ask w (When f x y ⨾ more) r z r) q.3
           (covers_list ask w falls (When f x y) y more r (second_taken yes no (collected ask w x r) (collected ask w y r) o) (second_through yes no (through w x r) (through w y r) o))
+  next s ps more left g c h = absurd g
 
   chooses_before : (s : Statement) (ps : List Statement) → Chooses w.child chosen (s ∷ ps) → Chooses w.child chosen ps
   chooses_before (Start d) ps c = c.1
@@ -228,7 +229,7 @@ ending_at_falls pick w f (Check k) r q p =
     let add = both (with_tokens (w.linked k)) in
     when_under (not (w.known.quiet k)) (not (w.known.quiet k)) (pick o (add r)) (pick o (add q)) (λ e. e)
     (f o (add r) (add q) (tokens_under (w.linked k) r.unburdened q.unburdened p.0, tokens_under (w.linked k) r.burdened q.burdened p.1))
-ending_at_falls pick w f (Work site m) r q p =
+ending_at_falls pick w f (Work site m n) r q p =
     let o = Threw (WorkFailed (record { 0 = site })) in
     let b = m && not (w.known.sure site) in
     when_under b b (pick o r) (pick o q) (λ e. e) (f o r q p)
@@ -244,7 +245,7 @@ ends_there pick w (Check k) o r e =
     let c = cancellation w.known.own k in
     let told = both (with_tokens (w.linked k)) r in
     subst (λ z. Under (when (not (w.known.quiet k)) (pick c told)) (pick z told)) (sym e.1) (when_true (not (w.known.quiet k)) (pick c told) (not_from_false (w.known.quiet k) e.0))
-ends_there pick w (Work site m) o r e =
+ends_there pick w (Work site m n) o r e =
     let t = Threw (WorkFailed (record { 0 = site })) in
     subst (λ z. Under (when (m && not (w.known.sure site)) (pick t r)) (pick z r)) (sym e.2)
     (when_true (m && not (w.known.sure site)) (pick t r) (and_from m (not (w.known.sure site)) e.0 (not_from_false (w.known.sure site) e.1)))
@@ -292,9 +293,9 @@ module _ (c : ℕ) (w : Reading) (tokens : ℕ → Bool) (body : Statements) whe
   none_chosen (Check k ∷ passed) = none_chosen passed
   none_chosen (Cancel k ∷ passed) = none_chosen passed
   none_chosen (Observe ∷ passed) = none_chosen passed
-  none_chosen (Work site m ∷ passed) = none_chosen passed
+  none_chosen (Work site m n ∷ passed) = none_chosen passed
   none_chosen (If i x y ∷ passed) = none_chosen passed
-  none_chosen (When f x y ∷ passed) = none_chosen passed
+  none_chosen (s ∷ passed) = none_chosen passed
 
   abbrev AtStart : List Statement → Type 0
   AtStart passed = (b : Knowledge) × (at_start c w tokens body ≡ Some b) × ((k : ℕ) → b.requested k ≡ true → requested_on w.linked tokens passed k ≡ true)
@@ -397,12 +398,12 @@ module _ (pick : Outcome → Reached → Option Knowledge) (w : Reading) (falls 
           let path = one (is_burdened w.child chosen ps) known in
           under_trans (ended_by pick w body (from tokens)) (pick v told) (pick v path) (stops_at pick w falls tokens chosen body (Check k) ps v f c h)
           (falls v told path (told_one (w.linked k) (is_burdened w.child chosen ps) (known_on w tokens ps)))
-      at (Work site m) f c h = stops_at pick w falls tokens chosen body (Work site m) ps v f c h
+      at (Work site m n) f c h = stops_at pick w falls tokens chosen body (Work site m n) ps v f c h
       at (Cancel k) f c h = absurd f.2
       at (Start d) f c h = absurd f.2
       at Observe f c h = absurd f.2
       at (If i x y) f c h = absurd f.2
-      at (When n x y) f c h = absurd f.2
+      at s f c h = absurd f.2
 
 -- what is found where a child is started, all of it known to the body
 abbrev pub FoundAt : ℕ → Reading → (ℕ → Bool) → Statements → Option Outcome → List Statement → Type 0
@@ -421,7 +422,7 @@ known_where_started c w tokens body (Some v) left (s ∷ ps) f h e = at s f.1 e
     at (Check k) f e =
         let b = known_at_start c w tokens body ps (Check k ⨾ f.0) f.1 h e in
         (b.0, b.1, λ j m. or_right (w.linked k j) (requested_on w.linked tokens ps j) (b.2 j m))
-    at (Work site m) f e = known_at_start c w tokens body ps (Work site m ⨾ f.0) f.1 h e
+    at (Work site m n) f e = known_at_start c w tokens body ps (Work site m n ⨾ f.0) f.1 h e
     at s f e = absurd f.2
 
 -- ends that may be chosen of each child that is started

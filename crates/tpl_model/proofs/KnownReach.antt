@@ -96,7 +96,7 @@ mutual
   )
   behind_reach w (Start c) r e = (refl, start_some (w.child c) r e)
   behind_reach w Observe r e = (refl, e)
-  behind_reach w (Work site m) r e = (refl, e)
+  behind_reach w (Work site m n) r e = (refl, e)
   behind_reach w (If i a b) r e =
       elim (join_some (both (when (w.known.possible i true)) (through w a r)) (both (when (w.known.possible i false)) (through w b r)) e) [
         | inl q ↦
@@ -119,6 +119,7 @@ mutual
             let t = through_reach w b r p.1 in
             (or_right (w.known.subject f && gets_through none w.known a) (another w.known f && gets_through none w.known b) (and_from (another w.known f) (gets_through none w.known b) p.0 t.0), t.1)
       ]
+  behind_reach w s r e = true_false (sym e)
 
 -- what is found of paths that start a child
 mutual
@@ -188,7 +189,7 @@ module _ (pick : Outcome → Reached → Option Knowledge) (test : Outcome → B
         let q = when_some (not (w.known.quiet k)) (pick o told) e in
         let p = picks o told q.1 in
         (and_from (not (w.known.quiet k)) (test o) q.0 p.0, both_some (with_tokens (w.linked k)) r (tokens_some (w.linked k)) p.1)
-    end_reach_at (Work site m) r e =
+    end_reach_at (Work site m n) r e =
         let o = Threw (WorkFailed (record { 0 = site })) in
         let q = when_some (m && not (w.known.sure site)) (pick o r) e in
         let b = and_parts m (not (w.known.sure site)) q.0 in
@@ -218,7 +219,7 @@ module _ (pick : Outcome → Reached → Option Knowledge) (test : Outcome → B
         ]
     end_reach_at (Cancel k) r e = true_false (sym e)
     end_reach_at (Start c) r e = true_false (sym e)
-    end_reach_at Observe r e = true_false (sym e)
+    end_reach_at s r e = true_false (sym e)
 
   ended_reach : (body : Statements) (r : Reached) → is_some (ended_by pick w body r) ≡ true → may none test w.known body ≡ true
   ended_reach body r e =
@@ -313,7 +314,7 @@ module _ (w : Reading) where
     behind_burden (Cancel k) r e = inl (tokens_some (w.linked k) r.burdened (when_some (not (w.known.quiet k)) (with_tokens (w.linked k) r.burdened) e).1)
     behind_burden (Start d) r e = start_burden d (w.child d) r refl e
     behind_burden Observe r e = inl e
-    behind_burden (Work site m) r e = inl e
+    behind_burden (Work site m n) r e = inl e
     behind_burden (If i a b) r e =
         burden_list (w.known.possible i true) (w.known.possible i false) a b (If i a b) r (λ c. refl)
         (elim (meet_some (when (w.known.possible i true) (through w a r).burdened) (when (w.known.possible i false) (through w b r).burdened) e) [
@@ -326,6 +327,7 @@ module _ (w : Reading) where
           | inl q ↦ let p = when_some (w.known.subject f) (through w a r).burdened q in inl (p.0, through_burden a r p.1)
           | inr q ↦ let p = when_some (another w.known f) (through w b r).burdened q in inr (p.0, through_burden b r p.1)
         ])
+    behind_burden s r e = true_false (sym e)
 
   -- a path that ends Faulted throws, or is burdened
   abbrev Faults : Statements → Reached → Type 0
@@ -381,7 +383,7 @@ module _ (w : Reading) where
             | inr b ↦ inr (inl (tokens_some (w.linked k) r.burdened b))
           ],
         )
-    fault_reach_at (Work site m) r e =
+    fault_reach_at (Work site m n) r e =
         let q = when_some (m && not (w.known.sure site)) (all r) e in
         let b = and_parts m (not (w.known.sure site)) q.0 in
         (all_some r q.1, inl (and_from m (not (w.known.sure site) && true) b.0 (and_from (not (w.known.sure site)) true b.1 refl)))
@@ -399,7 +401,7 @@ module _ (w : Reading) where
         ])
     fault_reach_at (Cancel k) r e = true_false (sym e)
     fault_reach_at (Start c) r e = true_false (sym e)
-    fault_reach_at Observe r e = true_false (sym e)
+    fault_reach_at s r e = true_false (sym e)
 
   pub may_fault : (tokens : ℕ → Bool) (body : Statements) → is_some (at_end Faulted w tokens body) ≡ true → MayThrow w.known body ⊎ ((c : ℕ) × MayStartChild w.known body c × MayFault (w.child c))
   may_fault tokens body e =

@@ -90,7 +90,11 @@ mutual
             let o = another_is w f b.0 in
             record { chosen = y; goes = λ more. inr (o.0, o.1, o.2, refl); through = through_walk avoid w y b.1 }
       ]
-  by_walk avoid w s e = record { chosen = Nothing; goes = λ more. refl; through = nothing_chosen avoid w }
+  by_walk avoid w (Check k) e = record { chosen = Nothing; goes = λ more. refl; through = nothing_chosen avoid w }
+  by_walk avoid w (Start d) e = record { chosen = Nothing; goes = λ more. refl; through = nothing_chosen avoid w }
+  by_walk avoid w Observe e = record { chosen = Nothing; goes = λ more. refl; through = nothing_chosen avoid w }
+  by_walk avoid w (Work i m n) e = record { chosen = Nothing; goes = λ more. refl; through = nothing_chosen avoid w }
+  by_walk avoid w s e = true_false (sym e)
 
 empty_parts : (a b : Statements) → Nothing ≡ followed_by a b → (a ≡ Nothing) × (b ≡ Nothing)
 empty_parts Nothing b e = (refl, sym e)
@@ -153,7 +157,11 @@ mutual
             let t = from_chosen avoid w y rest ps (subst (λ z. Walks w z ps Nothing) (sym q.3) e) c in
             (or_right (w.subject f && gets_through avoid w x) (another w f && gets_through avoid w y) (and_join (another w f) (gets_through avoid w y) (is_another w f q.0 q.1 q.2) (walk_through avoid w y t.0)), t.1)
       ]
-  walk_by avoid w s rest mid ps g e c = (refl, record { passed = ps; walks = subst (λ z. Walks w z ps Nothing) (sym g) e; clean = c })
+  walk_by avoid w (Check k) rest mid ps g e c = (refl, record { passed = ps; walks = subst (λ z. Walks w z ps Nothing) (sym g) e; clean = c })
+  walk_by avoid w (Start d) rest mid ps g e c = (refl, record { passed = ps; walks = subst (λ z. Walks w z ps Nothing) (sym g) e; clean = c })
+  walk_by avoid w Observe rest mid ps g e c = (refl, record { passed = ps; walks = subst (λ z. Walks w z ps Nothing) (sym g) e; clean = c })
+  walk_by avoid w (Work i m n) rest mid ps g e c = (refl, record { passed = ps; walks = subst (λ z. Walks w z ps Nothing) (sym g) e; clean = c })
+  walk_by avoid w s rest mid ps g e c = absurd g
 
 -- a walk to a statement that ends it with a verdict that passes the test
 pub record Stop (avoid : Statement → Bool) (test : Outcome → Bool) (w : Known) (script : Statements) : Type 0 where
@@ -218,7 +226,7 @@ mutual
   stop_at_found avoid test w (Cancel k) e = true_false (sym e)
   stop_at_found avoid test w (Start c) e = true_false (sym e)
   stop_at_found avoid test w Observe e = true_false (sym e)
-  stop_at_found avoid test w (Work i f) e =
+  stop_at_found avoid test w (Work i f n) e =
       let b = and_parts f (not (w.sure i) && test (Threw (WorkFailed (record { 0 = i })))) e in
       let d = and_parts (not (w.sure i)) (test (Threw (WorkFailed (record { 0 = i })))) b.1 in
       itself (Threw (WorkFailed (record { 0 = i }))) (b.0, not_of (w.sure i) d.0, refl) d.1
@@ -235,6 +243,7 @@ mutual
             let o = another_is w f b.0 in
             inside y (λ more. inr (o.0, o.1, o.2, refl)) (stop_found avoid test w y b.1)
       ]
+  stop_at_found avoid test w s e = true_false (sym e)
 
 ahead_starts : (a b : Statements) (s : Statement) (more : Statements) → s ⨾ more ≡ followed_by a b → ((a ≡ Nothing) × (s ⨾ more ≡ b)) ⊎ ((a2 : Statements) × (a ≡ s ⨾ a2))
 ahead_starts Nothing b s more e = inl (refl, e)
@@ -282,7 +291,7 @@ ends_at_test : (avoid : Statement → Bool) (test : Outcome → Bool) (w : Known
 ends_at_test avoid test w Return verdict e t = subst (λ z. test z ≡ true) e t
 ends_at_test avoid test w (Throw l) verdict e t = subst (λ z. test z ≡ true) e t
 ends_at_test avoid test w (Check k) verdict e t = and_join (not (w.quiet k)) (test (cancellation w.own k)) (not_from_false (w.quiet k) e.0) (subst (λ z. test z ≡ true) e.1 t)
-ends_at_test avoid test w (Work i f) verdict e t =
+ends_at_test avoid test w (Work i f n) verdict e t =
     and_join f (not (w.sure i) && test (Threw (WorkFailed (record { 0 = i })))) e.0
     (and_join (not (w.sure i)) (test (Threw (WorkFailed (record { 0 = i })))) (not_from_false (w.sure i) e.1) (subst (λ z. test z ≡ true) e.2 t))
 ends_at_test avoid test w s verdict e t = absurd e
@@ -332,7 +341,11 @@ mutual
           | inr m ↦ inr (or_right (w.subject f && gets_through avoid w x) (another w f && gets_through avoid w y) (and_join (another w f) (gets_through avoid w y) (is_another w f q.0 q.1 q.2) (walk_through avoid w y m.0)), m.1)
         ]
       ]
-  goes_complete avoid test w s rest mid g t = inr (refl, subst (λ z. Stop avoid test w z) (sym g) t)
+  goes_complete avoid test w (Check k) rest mid g t = inr (refl, subst (λ z. Stop avoid test w z) (sym g) t)
+  goes_complete avoid test w (Start d) rest mid g t = inr (refl, subst (λ z. Stop avoid test w z) (sym g) t)
+  goes_complete avoid test w Observe rest mid g t = inr (refl, subst (λ z. Stop avoid test w z) (sym g) t)
+  goes_complete avoid test w (Work i m n) rest mid g t = inr (refl, subst (λ z. Stop avoid test w z) (sym g) t)
+  goes_complete avoid test w s rest mid g t = absurd g
 
 reverse_more : (x : Statement) (xs : List Statement) → reverse (x ∷ xs) ≡ reverse xs ++ x ∷ []
 reverse_more x xs = reverse-append (x ∷ []) xs
@@ -559,7 +572,11 @@ mutual
           | inr m ↦ inr (or_right (w.subject f && gets_through none w x) (another w f && gets_through none w y) (and_join (another w f) (gets_through none w y) (is_another w f a.0 a.1 a.2) (walk_through none w y m.0)), m.1)
         ]
       ]
-  later_complete c w s rest mid left ps g e q = inr (refl, record { passed = ps; left = left; walks = subst (λ z. Walks w z ps left) (sym g) e; starts = q })
+  later_complete c w (Check k) rest mid left ps g e q = inr (refl, record { passed = ps; left = left; walks = subst (λ z. Walks w z ps left) (sym g) e; starts = q })
+  later_complete c w (Start d) rest mid left ps g e q = inr (refl, record { passed = ps; left = left; walks = subst (λ z. Walks w z ps left) (sym g) e; starts = q })
+  later_complete c w Observe rest mid left ps g e q = inr (refl, record { passed = ps; left = left; walks = subst (λ z. Walks w z ps left) (sym g) e; starts = q })
+  later_complete c w (Work i m n) rest mid left ps g e q = inr (refl, record { passed = ps; left = left; walks = subst (λ z. Walks w z ps left) (sym g) e; starts = q })
+  later_complete c w s rest mid left ps g e q = absurd g
 
 pub start_lem : MayStartIsRight
 start_lem c w body = (found, complete)
