@@ -7,10 +7,10 @@ use Rattle.tpl_model.proofs.MemberLemmas.{same_self}
 use Rattle.tpl_model.proofs.Truths.{true_false}
 use Rattle.tpl_model.specs.declared.status.Status.TheVariants.{WaitingToRun, WaitingForActivation}
 use Rattle.tpl_model.specs.Statements.{Nothing}
-use Rattle.tpl_model.specs.Graph.{TaskGraph, TaskKind, Root, Child, Continues, WhenAll, WhenAny, kind, is_task, is_token}
+use Rattle.tpl_model.specs.Graph.{TaskGraph, TaskKind, Root, Child, Continues, WhenAll, WhenAny, task, kind, body, is_task, is_token}
 use Rattle.tpl_model.specs.declared.status.Actor.{Actor}
 use Rattle.tpl_model.specs.declared.event.Act.{Act}
-use Rattle.tpl_model.specs.declared.event.Act.TheVariants.{Request, Release, Begin, Step, Worked, Leave, Close, Drop, Settle}
+use Rattle.tpl_model.specs.declared.event.Act.TheVariants.{Request, Release, Begin, Step, Worked, Resume, Leave, Close, Drop, Settle}
 use Rattle.tpl_model.specs.declared.event.Event.{Event}
 use Rattle.tpl_model.specs.Facts.{Ending, begun, released, left_body, requests, rest, requested_itself, started, ending, ends_by, ending_by, settled_as}
 use Rattle.tpl_model.specs.Rules.{opening, Allows, Run, can_settle}
@@ -20,6 +20,7 @@ use Rattle.tpl_laws.proofs.Basics.{if_true}
 use Rattle.tpl_laws.proofs.Sources.{through_here}
 use Rattle.tpl_laws.proofs.Kept.{after, running_facts, waiting_facts, drop_facts, close_facts, ended_kept, begun_kept, left_kept, released_kept}
 use Rattle.tpl_laws.proofs.Sizes.{passed_smaller, rest_no_larger}
+use Rattle.tpl_model.proofs.Onwards.{entered_fits}
 use Rattle.tpl_laws.specs.Runs.{IsBounded}
 
 -- the sum over the numbers below n
@@ -168,7 +169,8 @@ uses_up g v h a (Begin t) al =
           (ap is_some (if_true (nat_eq t.0 t.0) (Some a) (begun h t.0) (same_self t.0))))),
     )
 uses_up g v h a (Step t) al = inr (t.0, al.0.task, inr (inr (inr (inr (passed_smaller g v h a (Step t) t.0 (inl refl) al)))))
-uses_up g v h a (Worked t w) al = inr (t.0, al.0.task, inr (inr (inr (inr (passed_smaller g v h a (Worked t w) t.0 (inr (w, refl)) al)))))
+uses_up g v h a (Worked t w) al = inr (t.0, al.0.task, inr (inr (inr (inr (passed_smaller g v h a (Worked t w) t.0 (inr (inl (w, refl))) al)))))
+uses_up g v h a (Resume t w) al = inr (t.0, al.0, inr (inr (inr (inr (passed_smaller g v h a (Resume t w) t.0 (inr (inr (w, refl))) al)))))
 uses_up g v h a (Leave t) al =
     inr (t.0, al.0.task, inr (inr (inl (unused_lt (left_body h t.0) (left_body (after a (Leave t) h) t.0) (running_facts g v h a t.0 al.0).1 (or_left (nat_eq t.0 t.0) (left_body h t.0) (same_self t.0))))))
 uses_up g v h a (Close t) al = end_used g v h a (Close t) t.0 al.0 (none_false (ending g v h t.0) (close_facts g v h t.0 al.1).0) (same_self t.0) refl
@@ -193,7 +195,7 @@ less_left g v h a x al =
 at_first : (g : TaskGraph) (v : List Bool) → all_left g v [] ≤ bound g
 at_first g v =
     let p = upto_ones (token_left g v []) (length g.tokens) (λ k. unused_one (requested_itself g v [] k)) in
-    let q = upto_list (task_left g v []) (λ t. 4 + statement_count t.body) (record { kind = Root; body = Nothing; token = None; options = 0 }) g.tasks (λ t. let e = unused_one (is_some (ending g v [] t)) in omega arith) in
+    let q = upto_list (task_left g v []) (λ t. 4 + statement_count t.body) (record { kind = Root; body = Nothing; token = None; options = 0; is_async = false }) g.tasks (λ t. let e = unused_one (is_some (ending g v [] t)) in let s = entered_fits (body g t) in omega arith) in
     omega arith
 
 by_events : (g : TaskGraph) (v : List Bool) (h : List Event) → Run g v h → length h + all_left g v h ≤ bound g

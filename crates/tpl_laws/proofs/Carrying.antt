@@ -14,7 +14,7 @@ use Rattle.tpl_model.specs.declared.status.Actor.{Actor}
 use Rattle.tpl_model.specs.declared.event.Act.{Act}
 use Rattle.tpl_model.specs.declared.event.Act.TheVariants.{Leave, Close, Drop, Settle}
 use Rattle.tpl_model.specs.declared.event.Event.{Event}
-use Rattle.tpl_model.specs.Facts.{Ending, begun, left_body, ends_by, ending_by, final_in, all_over, rest, started, ending, ended_at_once, carried_in, gathered, own_atom, those_started, outcome_in, body_final, all_final, worse, settled_as, body_over}
+use Rattle.tpl_model.specs.Facts.{Ending, begun, left_body, ends_by, ending_by, final_in, all_over, rest, started, ending, ended_at_once, carried_in, gathered, own_atom, those_started, outcome_in, body_final, all_final, worse, settled_as, body_over, body_raised, first_raised}
 use Rattle.tpl_model.specs.Rules.{status, IsRunning, MayDrop, Allows, Run, can_settle}
 use Rattle.tpl_laws.proofs.Basics.{some_none, same_number, mem_here, joined_keeps, joined_adds, joined_from}
 use Rattle.tpl_laws.proofs.Kept.{after, running_facts, close_facts, ending_new}
@@ -104,7 +104,8 @@ final_or_canceled None = Canceled
 final_or_canceled (Some q) = q.final
 
 body_ends : (g : TaskGraph) (v : List Bool) (h : List Event) (a : Actor) (t : ℕ) (r : Ending)
-    → body_over (suc (length h)) a (gathered (own_atom t (outcome_in (rest g v h t))) (those_started (attached g t) (started g v h)) (ending g v h)) (outcome_in (rest g v h t)) ≡ Some r
+    → body_over (suc (length h)) a (gathered (own_atom t (outcome_in (rest g v h t))) (those_started (attached g t) (started g v h)) (ending g v h)) (outcome_in (rest g v h t))
+      (body_raised t (rest g v h t) (outcome_in (rest g v h t)) (first_raised Faulted (those_started (attached g t) (started g v h)) (ending g v h))) ≡ Some r
     → is_some (begun h t) ≡ true → all_over (attached g t) (started g v h) (ending g v h) ≡ true → (left_body h t ≡ true) ⊎ (is_some (outcome_in (rest g v h t)) ≡ true) → BodyEnds g v h t r
 body_ends g v h a t r m b o l =
     let c = ap carried_in m in

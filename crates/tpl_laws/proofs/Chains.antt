@@ -5,7 +5,10 @@ use Rattle.std.proofs.lemmas.Bool.{cases_Bool}
 use Rattle.tpl_model.proofs.Truths.{true_false}
 use Rattle.tpl_model.specs.declared.finals.Final.TheVariants.{RanToCompletion, Canceled}
 use Rattle.tpl_model.specs.declared.status.Label.{Label}
+use Rattle.tpl_model.specs.declared.outcome.Outcome.{Outcome}
 use Rattle.tpl_model.specs.declared.outcome.Outcome.TheVariants.{Threw}
+use Rattle.tpl_model.specs.declared.status.Status.TheVariants.{Running}
+use Rattle.tpl_model.proofs.Onwards.{entered_open}
 use Rattle.tpl_model.specs.Members.{mem}
 use Rattle.tpl_model.specs.Statements.{Statements, Nothing, ◌⨾◌}
 use Rattle.tpl_model.specs.Graph.{TaskGraph, TaskKind, Child, Continues, WhenAll, WhenAny, task, kind, body, is_task, attached, IsParent}
@@ -13,10 +16,10 @@ use Rattle.tpl_model.specs.declared.status.Actor.{Actor}
 use Rattle.tpl_model.specs.declared.event.Act.{Act}
 use Rattle.tpl_model.specs.declared.event.Act.TheVariants.{Leave, Close, Drop, Settle}
 use Rattle.tpl_model.specs.declared.event.Event.{Event}
-use Rattle.tpl_model.specs.Facts.{Ending, on, over, begun, begun_by, ends_by, rest, requested, started, ending, ended_at_once, final_in, carried_in, own_atom, those_started, outcome_in, settled_as}
-use Rattle.tpl_model.specs.Rules.{IsRunning, MayDrop, MayNotStart, MayCancel, Allows, Run, can_settle, all_ended, ended, token_requested, token_requested_by, Complete, to_end}
+use Rattle.tpl_model.specs.Facts.{Ending, entered, outcome_of, begun, begun_by, ends_by, rest, requested, started, ending, ended_at_once, final_in, carried_in, own_atom, those_started, outcome_in, settled_as}
+use Rattle.tpl_model.specs.Rules.{status, MayDrop, MayNotStart, MayCancel, Allows, Run, can_settle, all_ended, ended, token_requested, token_requested_by, Complete, to_end}
 use Rattle.tpl_laws.proofs.Basics.{some_none, the_some, is_some_of, mem_here}
-use Rattle.tpl_laws.proofs.Kept.{after, not_some, running_facts, drop_facts, ending_new, ending_kept, final_kept, requested_kept, started_kept, begun_kept}
+use Rattle.tpl_laws.proofs.Kept.{after, not_some, status_facts, drop_facts, ending_new, ending_kept, final_kept, requested_kept, started_kept, begun_kept}
 use Rattle.tpl_model.specs.Valid.{IsGraph}
 use Rattle.tpl_laws.proofs.Execution.{passed}
 use Rattle.tpl_laws.proofs.Ready.{EndedSo, may_not_start_so, Ready, begun_ready, waiting_ready, IsBody, begun_body, drop_body}
@@ -27,12 +30,12 @@ use Rattle.tpl_laws.proofs.RowsAreTrue.{rest_idle, left_verdict}
 use Rattle.tpl_laws.proofs.Arguments.{all_ended_mem}
 
 -- a task that hasn't begun still has its whole body
-pub unbegun_rest : (g : TaskGraph) (v : List Bool) (h : List Event) (t : ℕ) → Run g v h → begun h t ≡ None → (rest g v h t ≡ on (body g t)) × (passed g v h t ≡ [])
+pub unbegun_rest : (g : TaskGraph) (v : List Bool) (h : List Event) (t : ℕ) → Run g v h → begun h t ≡ None → (rest g v h t ≡ entered (body g t)) × (passed g v h t ≡ [])
 unbegun_rest g v [] t run b = (refl, refl)
 unbegun_rest g v (e ∷ h) t run b =
     let old = before e.act (begun h t) refl b in
     let ih = unbegun_rest g v h t run.0 old in
-    let i = rest_idle g v h e.actor e.act t run.1 (λ r. true_false (sym (running_facts g v h e.actor t r).2 ∙ ap is_some old)) in
+    let i = rest_idle g v h e.actor e.act t run.1 (λ r. true_false (sym (status_facts g v h t r).2 ∙ ap is_some old)) in
     (i.0 ∙ ih.0, i.1 ∙ ih.1)
   where
     pick : (c : Bool) (o : Option Actor) → (if c then Some e.actor else o) ≡ None → o ≡ None
@@ -54,9 +57,13 @@ threw_begun g v h t lb run e =
       | inr b ↦ absurd (whole (body g t) (sym (ap outcome_in (unbegun_rest g v h t run (not_some (begun h t) b)).0) ∙ e))
     ]
   where
-    whole : (s : Statements) → outcome_in (on s) ≡ Some (Threw lb) → ⊥
-    whole Nothing q = absurd (cc)
-    whole (s ⨾ more) q = some_none (Threw lb) (sym q)
+    by_left : (o : Option Outcome) (left : Statements) → o ≡ None → outcome_of o left ≡ Some (Threw lb) → ⊥
+    by_left None Nothing n q = absurd (cc)
+    by_left None (s ⨾ more) n q = some_none (Threw lb) (sym q)
+    by_left (Some o) left n q = some_none o n
+
+    whole : (s : Statements) → outcome_in (entered s) ≡ Some (Threw lb) → ⊥
+    whole s q = by_left (entered s).outcome (entered s).left (entered_open s) q
 
 -- the act that ends a task passes none of its statements and starts no child
 pub at_end : (g : TaskGraph) (v : List Bool) (h : List Event) (a : Actor) (x : Act) (t : ℕ) → ends_by g t x (started g v h) (ending g v h) ≡ true → (rest g v (after a x h) t ≡ rest g v h t) × ((c : ℕ) → started g v (after a x h) c ≡ true → started g v h c ≡ true)
@@ -71,8 +78,8 @@ no_settle (WhenAll args) en b c = b
 no_settle (WhenAny args) en b c = b
 no_settle k en b c = true_false (sym c)
 
-ended_idle : (g : TaskGraph) (v : List Bool) (h : List Event) (a : Actor) (t : ℕ) (r : Ending) → ending g v h t ≡ Some r → IsRunning g v h a t → ⊥
-ended_idle g v h a t r e q = some_none r (sym e ∙ (running_facts g v h a t q).0)
+ended_idle : (g : TaskGraph) (v : List Bool) (h : List Event) (t : ℕ) (r : Ending) → ending g v h t ≡ Some r → status g v h t ≡ Running → ⊥
+ended_idle g v h t r e q = some_none r (sym e ∙ (status_facts g v h t q).0)
 
 -- a task whose body threw carries its exception once it has ended
 pub carries_own : (g : TaskGraph) (v : List Bool) (h : List Event) (t : ℕ) (lb : Label) (r : Ending) → Run g v h → outcome_in (rest g v h t) ≡ Some (Threw lb) → ending g v h t ≡ Some r → mem t r.carried ≡ true
@@ -90,7 +97,7 @@ carries_own g v (ev ∷ h) t lb r run e m = here (λ q o. carries_own g v h t lb
     here : (outcome_in (rest g v h t) ≡ Some (Threw lb) → ending g v h t ≡ Some r → mem t r.carried ≡ true) → (a : Actor) (x : Act) → Allows g v h a x → outcome_in (rest g v (after a x h) t) ≡ Some (Threw lb) → ending g v (after a x h) t ≡ Some r → mem t r.carried ≡ true
     here old a x al q z =
         elim (ending_new g v h a x t r z) [
-          | inl o ↦ old (sym (ap outcome_in (rest_idle g v h a x t al (ended_idle g v h a t r o)).0) ∙ q) o
+          | inl o ↦ old (sym (ap outcome_in (rest_idle g v h a x t al (ended_idle g v h t r o)).0) ∙ q) o
           | inr n ↦ by_end (sym (ap outcome_in (at_end g v h a x t n.0).0) ∙ q) (how_ends g v h a x t r run.0 al n.0 n.1)
         ]
 
@@ -295,6 +302,6 @@ ended_as g v (ev ∷ h) t y r run k e = here (λ o. ended_as g v h t y r run.0 k
     here : (ending g v h t ≡ Some r → EndedAs g v h t y) → (a : Actor) (x : Act) → Allows g v h a x → ending g v (after a x h) t ≡ Some r → EndedAs g v (after a x h) t y
     here old a x al z =
         elim (ending_new g v h a x t r z) [
-          | inl o ↦ kept a x al (rest_idle g v h a x t al (ended_idle g v h a t r o)).0 (old o)
+          | inl o ↦ kept a x al (rest_idle g v h a x t al (ended_idle g v h t r o)).0 (old o)
           | inr n ↦ kept a x al (at_end g v h a x t n.0).0 (by_end (how_ends g v h a x t r run.0 al n.0 n.1))
         ]

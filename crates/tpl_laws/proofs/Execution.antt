@@ -23,6 +23,7 @@ use Rattle.tpl_model.specs.declared.status.Status.TheVariants.{Running}
 use Rattle.tpl_model.specs.Outwards.{enter, enter_at, enter_finally, finally_of, either_handler, catcher, handled, past_one, onwards, caught_around}
 use Rattle.tpl_model.specs.Facts.{Rest, Ending, on, raising, check, all_raised, as_exception, outgoing_of, is_won, resumed, task_number, begun, starts_by, rest_after, step_of, stepped, worked, rest, requested, started, ending, is_start, subject_in, has_final}
 use Rattle.tpl_model.specs.Paths.{is_start_of, passes_start}
+use Rattle.tpl_model.proofs.Onwards.{ahead_nothing}
 use Rattle.tpl_model.specs.Rules.{IsRunning, Allows, Run, status, works, resumes}
 use Rattle.tpl_model.specs.Statements.{reads_nothing_in}
 use Rattle.tpl_laws.proofs.Basics.{if_true, if_false, same_number}
@@ -225,7 +226,7 @@ module _ (Q : Statements → Type 0) (k : IsKept Q) where
   after_keeps g v t x now req en q = q
 
 pub rest_keeps : (Q : Statements → Type 0) → IsKept Q → (g : TaskGraph) (v : List Bool) (h : List Event) (t : ℕ) → Q (body g t) → Q (rest g v h t).left
-rest_keeps Q k g v [] t q = onwards_keeps Q k (task g t) None (body g t) q
+rest_keeps Q k g v [] t q = enter_keeps Q k (body g t) Nothing (on Nothing) (subst Q (sym (ahead_nothing (body g t))) q) k.empty
 rest_keeps Q k g v (e ∷ h) t q = after_keeps Q k g v t e.act (rest g v h t) (requested g v h) (ending g v h) (rest_keeps Q k g v h t q)
 
 -- what stands in a body stands in one of its statements, and in a branch it stands in one of its lists

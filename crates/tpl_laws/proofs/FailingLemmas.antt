@@ -8,7 +8,7 @@ use Rattle.tpl_model.specs.declared.status.Status.TheVariants.{WaitingToRun, Wai
 use Rattle.tpl_model.specs.declared.status.Actor.{Actor}
 use Rattle.tpl_model.specs.Graph.{TaskGraph, TaskKind, Root, Child, Continues, WhenAll, WhenAny, kind, is_task}
 use Rattle.tpl_model.specs.declared.event.Act.{Act}
-use Rattle.tpl_model.specs.declared.event.Act.TheVariants.{Request, Release, Begin, Step, Worked, Leave, Close, Drop, Settle}
+use Rattle.tpl_model.specs.declared.event.Act.TheVariants.{Request, Release, Begin, Step, Worked, Resume, Leave, Close, Drop, Settle}
 use Rattle.tpl_model.specs.declared.event.Event.{Event}
 use Rattle.tpl_model.specs.Facts.{begun, begun_by, requested, failed, started, ending}
 use Rattle.tpl_model.specs.Rules.{label, seen, MayDrop, MayStart, MayNotStart, MayCancel, Allows, Run, to_end, Complete, can_settle}
@@ -16,7 +16,7 @@ use Rattle.tpl_model.specs.Certificate.{same}
 use Rattle.tpl_laws.specs.RunTests.{is_complete}
 use Rattle.tpl_laws.specs.ClaimTests.{began_at}
 use Rattle.tpl_laws.specs.Failing.{is_at, IsFrom, or_now, OnlyRequests, StaysComplete, CompleteIsNoted, RequestIsNoted, JobIsNoted}
-use Rattle.tpl_laws.proofs.Kept.{after, failed_kept, running_facts, waiting_facts, close_facts, not_some}
+use Rattle.tpl_laws.proofs.Kept.{after, failed_kept, running_facts, status_facts, waiting_facts, close_facts, not_some}
 use Rattle.tpl_laws.proofs.Ready.{Ready, waiting_ready, begun_ready, left_begun}
 use Rattle.tpl_laws.proofs.Prefixes.{nothing_goes_back_lem}
 use Rattle.tpl_laws.proofs.SettledBefore.{longer, begins_once}
@@ -172,6 +172,7 @@ only_requests_lem g v h a (Release c) run complete al = is_over g v h c.0 comple
 only_requests_lem g v h a (Begin t) run complete al = is_over g v h t.0 complete al.0 (to_end_of g v h t.0 (kind g t.0) (waiting_ready g v h t.0 run al.1)) (waiting_facts g v h t.0 WaitingToRun al.1 (inl refl)).0
 only_requests_lem g v h a (Step t) run complete al = let r = running_facts g v h a t.0 al.0 in running_over g v h t.0 run complete al.0.task r.0 r.2
 only_requests_lem g v h a (Worked t w) run complete al = let r = running_facts g v h a t.0 al.0 in running_over g v h t.0 run complete al.0.task r.0 r.2
+only_requests_lem g v h a (Resume t w) run complete al = let r = status_facts g v h t.0 al.1 in running_over g v h t.0 run complete al.0 r.0 r.2
 only_requests_lem g v h a (Leave t) run complete al = let r = running_facts g v h a t.0 al.0 in running_over g v h t.0 run complete al.0.task r.0 r.2
 only_requests_lem g v h a (Close t) run complete al = let c = close_facts g v h t.0 al.1 in running_over g v h t.0 run complete al.0 c.0 (left_begun g v h t.0 run c.1)
 only_requests_lem g v h a (Drop t) run complete al = drop_over g v h t.0 run complete al.0 al.1

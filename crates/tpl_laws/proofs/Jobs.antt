@@ -1,7 +1,7 @@
 -- A job has failed just where its task's label says so.
-use Rattle.std.proofs.Common.{◌≡◌, ℕ, zero, suc, ◌+◌, ◌≤◌, ◌++◌, ◌||◌, inl, inr, Bool, true, false, cond, if◌then◌else◌, Option, Some, None, List, [], ◌∷◌, refl, sym, ap, ◌∙◌, subst, arith, flat_map, nat_eq, is_some, slice_index_or}
-use Rattle.std.proofs.lemmas.Bool.{cases_Bool, or_cases, or_left, or_right}
-use Rattle.tpl_model.proofs.MemberLemmas.{same_self}
+use Rattle.std.proofs.Common.{◌≡◌, ℕ, zero, suc, ◌+◌, ◌≤◌, ◌++◌, ◌||◌, ◌&&◌, not, inl, inr, Bool, true, false, cond, if◌then◌else◌, Option, Some, None, List, [], ◌∷◌, refl, sym, ap, ◌∙◌, subst, arith, flat_map, nat_eq, is_some, slice_index_or}
+use Rattle.std.proofs.lemmas.Bool.{cases_Bool, and_parts, or_cases, or_left, or_right}
+use Rattle.tpl_model.proofs.MemberLemmas.{same_self, mem_left, mem_right}
 use Rattle.std.proofs.lemmas.List.Recursion.{is_count_by}
 use Rattle.std.proofs.lemmas.List.Concat.{flat_map-cons}
 use Rattle.tpl_model.specs.Members.{mem}
@@ -10,19 +10,25 @@ use Rattle.tpl_laws.proofs.Execution.{rest_keeps, Stands, stands_kept, in_either
 use Rattle.tpl_model.proofs.Truths.{true_false}
 use Rattle.tpl_model.specs.declared.ids.SiteId.{SiteId}
 use Rattle.tpl_model.specs.declared.status.Label.{Label}
-use Rattle.tpl_model.specs.declared.status.Label.TheVariants.{WorkFailed}
+use Rattle.tpl_model.specs.declared.status.Label.TheVariants.{Thrown, OperationCanceled, WorkFailed}
 use Rattle.tpl_model.specs.declared.status.Actor.{Actor}
-use Rattle.tpl_model.specs.declared.status.Answer.TheVariants.{Done, Failed}
+use Rattle.tpl_model.specs.declared.status.Answer.TheVariants.{Done, Failed, Canceled as JobCanceled}
 use Rattle.tpl_model.specs.declared.outcome.Outcome.{Outcome}
 use Rattle.tpl_model.specs.declared.outcome.Outcome.TheVariants.{Threw, Acknowledged}
-use Rattle.tpl_model.specs.Statements.{Return, Throw, Check, Cancel, Start, Observe, Work, If, When, Statements, Nothing, ◌⨾◌, followed_by, sites, sites_of}
-use Rattle.tpl_model.specs.Paths.{cancellation, is_own}
-use Rattle.tpl_model.specs.Graph.{TaskGraph, Task, Root, task, kind, body}
+use Rattle.tpl_model.specs.declared.outcome.Raised.TheVariants.{Exception, Cancellation}
+use Rattle.tpl_model.specs.declared.outcome.Outgoing.{Outgoing}
+use Rattle.tpl_model.specs.declared.outcome.Outgoing.TheVariants.{Returning, Raising}
+use Rattle.tpl_model.specs.Outwards.{leaving, onwards, unhandled, catcher, finally_of}
+use Rattle.tpl_model.proofs.Onwards.{plain_entered, plain_onwards, plain_outwards}
+use Rattle.tpl_laws.proofs.Follows.{either_list, nowhere_left, nowhere_lists, never_resumed}
+use Rattle.tpl_model.specs.Statements.{Return, Throw, Check, Cancel, Start, Observe, Work, If, When, Statements, Nothing, ◌⨾◌, followed_by, Rethrow, Handlers, HandledBy, Handler, Absent, Present, sites, sites_of, sites_in, sites_by, each_in, is_plain_one, waits_nowhere}
+use Rattle.tpl_model.specs.Paths.{is_own}
+use Rattle.tpl_model.specs.Graph.{TaskGraph, Task, Root, task, kind, body, IsEarly}
 use Rattle.tpl_model.specs.declared.event.Act.{Act}
-use Rattle.tpl_model.specs.declared.event.Act.TheVariants.{Step, Worked}
+use Rattle.tpl_model.specs.declared.event.Act.TheVariants.{Step, Worked, Resume}
 use Rattle.tpl_model.specs.declared.event.Event.{Event}
-use Rattle.tpl_model.specs.Facts.{Ending, on, over, stepped, worked, outcome_in, outcome_of, has_final, subject_in, is_work, fails_by, rest, requested, failed, ending}
-use Rattle.tpl_model.specs.Rules.{Allows, Run, label, label_in}
+use Rattle.tpl_model.specs.Facts.{Ending, on, check, stepped, worked, resumed, task_number, outcome_in, outcome_of, has_final, subject_in, is_work, fails_by, rest, requested, failed, ending}
+use Rattle.tpl_model.specs.Rules.{Allows, Run, works, resumes, label, label_in}
 use Rattle.tpl_laws.proofs.Basics.{if_true, if_false, same_number}
 use Rattle.tpl_laws.proofs.Kept.{after}
 use Rattle.tpl_laws.proofs.Observing.{label_verdict}
@@ -50,70 +56,136 @@ threw_stays g v h a x t lb al e =
     ]
 
 -- the body whose job has failed
-fails_work : (site : ℕ) (left : Statements) → is_work site left ≡ true → outcome_in (worked Failed left) ≡ Fails site
-fails_work site (Work n m ⨾ more) e = ap Fails (same_number n site e)
-fails_work site left e = true_false (sym e)
+fails_work : (site : ℕ) (t : Task) (left : Statements) → waits_nowhere left ≡ true → is_work site left ≡ true → outcome_in (worked t Failed left) ≡ Fails site
+fails_work site t (Work n m c ⨾ more) e q =
+    ap outcome_in (plain_outwards t (Raising (Exception (WorkFailed (record { 0 = n })))) more (and_parts (not c) (waits_nowhere more) e).1)
+    ∙ ap Fails (same_number n site q)
+fails_work site t left e q = true_false (sym q)
 
--- no other act than the answer makes a body fail so
+-- no other act than the answer makes a body that waits nowhere fail so
 goes_on : (left : Statements) (lb : Label) → outcome_in (on left) ≡ Some (Threw lb) → ⊥
 goes_on Nothing lb e = absurd (cc)
 goes_on (s ⨾ more) lb e = absurd (cc)
 
-no_step : (g : TaskGraph) (v : List Bool) (t : ℕ) (left : Statements) (req : ℕ → Bool) (en : ℕ → Option Ending) (site : ℕ) → outcome_in (stepped g v t left req en) ≡ Fails site → ⊥
-no_step g v t Nothing req en site e = goes_on Nothing _ e
-no_step g v t (Return ⨾ more) req en site e = absurd (cc)
-no_step g v t (Throw l ⨾ more) req en site e = absurd (cc)
-no_step g v t (Check k ⨾ more) req en site e = by_request (req k) (is_own (task g t).token k) e
+-- nor does going on, or anything else that leaves it
+abbrev IsOther : Task → Outgoing → ℕ → Type 0
+IsOther t o site = outcome_in (leaving t o) ≡ Fails site → ⊥
+
+on_other : (t : Task) (more : Statements) (site : ℕ) → waits_nowhere more ≡ true → outcome_in (onwards t None more) ≡ Fails site → ⊥
+on_other t more site n e = goes_on more _ (sym (ap outcome_in (plain_onwards t more n)) ∙ e)
+
+out_other : (t : Task) (o : Outgoing) (more : Statements) (site : ℕ) → waits_nowhere more ≡ true → IsOther t o site → outcome_in (onwards t (Some o) more) ≡ Fails site → ⊥
+out_other t o more site n f e = f (sym (ap outcome_in (plain_outwards t o more n)) ∙ e)
+
+canceled_other : (async own : Bool) (token : Option ℕ) (k site : ℕ) → is_own token k ≡ own → Some (unhandled async token (OperationCanceled (record { 0 = k }))) ≡ Fails site → ⊥
+canceled_other true own token k site o e = absurd (cc)
+canceled_other false own token k site o e = by_own own (sym (ap (λ z. Some (if z then Acknowledged else Threw (OperationCanceled (record { 0 = k })))) o) ∙ e)
   where
-    by_request : (b c : Bool) → outcome_in (if b then over (if c then Acknowledged else cancellation None k) else on more) ≡ Fails site → ⊥
-    by_request true true q = absurd (cc)
-    by_request true false q = absurd (cc)
-    by_request false c q = goes_on more _ q
-no_step g v t (Cancel k ⨾ more) req en site e = goes_on more _ e
-no_step g v t (Start c ⨾ more) req en site e = goes_on more _ e
-no_step g v t (Observe ⨾ more) req en site e = goes_on more _ e
-no_step g v t (Work n m ⨾ more) req en site e = goes_on (Work n m ⨾ more) _ e
-no_step g v t (If i x y ⨾ more) req en site e = goes_on (followed_by (if slice_index_or v i false then x else y) more) _ e
-no_step g v t (When f x y ⨾ more) req en site e = goes_on (followed_by (if has_final f en (subject_in g (kind g t) en) then x else y) more) _ e
+    by_own : (b : Bool) → Some (if b then Acknowledged else Threw (OperationCanceled (record { 0 = k }))) ≡ Fails site → ⊥
+    by_own true q = absurd (cc)
+    by_own false q = absurd (cc)
+
+no_step : (g : TaskGraph) (v : List Bool) (t : ℕ) (left : Statements) (req : ℕ → Bool) (en : ℕ → Option Ending) (site : ℕ) → waits_nowhere left ≡ true → outcome_in (stepped g v t left req en) ≡ Fails site → ⊥
+no_step g v t Nothing req en site n e = goes_on Nothing _ e
+no_step g v t (Return ⨾ more) req en site n e = out_other (task g t) Returning more site n (λ q. absurd (cc)) e
+no_step g v t (Throw l ⨾ more) req en site n e = out_other (task g t) (Raising (Exception (Thrown (record { 0 = l })))) more site n (λ q. absurd (cc)) e
+no_step g v t (Check k ⨾ more) req en site n e = by_request (req k) e
+  where
+    by_request : (b : Bool) → outcome_in (onwards (task g t) (check k b) more) ≡ Fails site → ⊥
+    by_request true q =
+        out_other (task g t) (Raising (Cancellation (OperationCanceled (record { 0 = k })))) more site n
+        (canceled_other (task g t).is_async (is_own (task g t).token k) (task g t).token k site refl) q
+    by_request false q = on_other (task g t) more site n q
+no_step g v t (Cancel k ⨾ more) req en site n e = on_other (task g t) more site n e
+no_step g v t (Start c ⨾ more) req en site n e = on_other (task g t) more site n e
+no_step g v t (Observe ⨾ more) req en site n e = on_other (task g t) more site n e
+no_step g v t (If i x y ⨾ more) req en site n e =
+    let l = nowhere_lists x y more n in
+    on_other (task g t) (followed_by (if slice_index_or v i false then x else y) more) site (either_list (slice_index_or v i false) x y more l.0 l.1) e
+no_step g v t (When f x y ⨾ more) req en site n e =
+    let l = nowhere_lists x y more n in
+    let test = has_final f en (subject_in g (kind g t) en) in
+    on_other (task g t) (followed_by (if test then x else y) more) site (either_list test x y more l.0 l.1) e
+no_step g v t (Rethrow ⨾ more) req en site n e = true_false (sym n)
+no_step g v t (s ⨾ more) req en site n e = goes_on (s ⨾ more) _ e
 
 abbrev site_in : Option Outcome → ℕ
 site_in (Some (Threw (WorkFailed s))) = s.0
 site_in o = 0
 
-work_site : (site : ℕ) (left : Statements) → outcome_in (worked Failed left) ≡ Fails site → is_work site left ≡ true
-work_site site (Work n m ⨾ more) e = subst (λ z. nat_eq n z ≡ true) (ap site_in e) (same_self n)
-work_site site left e = absurd (goes_on left _ e)
+work_site : (site : ℕ) (t : Task) (left : Statements) → waits_nowhere left ≡ true → outcome_in (worked t Failed left) ≡ Fails site → is_work site left ≡ true
+work_site site t (Work n m c ⨾ more) e q =
+    subst (λ z. nat_eq n z ≡ true)
+    (ap site_in (sym (ap outcome_in (plain_outwards t (Raising (Exception (WorkFailed (record { 0 = n })))) more (and_parts (not c) (waits_nowhere more) e).1)) ∙ q)) (same_self n)
+work_site site t left e q = absurd (goes_on left _ q)
 
-threw_failed : (g : TaskGraph) (v : List Bool) (h : List Event) (site t : ℕ) → outcome_in (rest g v h t) ≡ Fails site → failed g v h site ≡ true
-threw_failed g v [] site t e = absurd (goes_on (body g t) _ e)
-threw_failed g v (x ∷ h) site t e = here (threw_failed g v h site t) x.act e
+-- no job of a body that waits nowhere is canceled
+no_cancel : (left : Statements) → waits_nowhere left ≡ true → works JobCanceled left ≡ true → ⊥
+no_cancel (Work s m c ⨾ more) n e = true_false (sym (subst (λ z. not z && waits_nowhere more ≡ true) e n))
+no_cancel left n e = true_false (sym e)
+
+-- what an act leaves of a body that waits nowhere, where it is over with the label of a job
+threw_failed : (g : TaskGraph) (v : List Bool) (h : List Event) (site t : ℕ) → IsEarly (task g t) → Run g v h → outcome_in (rest g v h t) ≡ Fails site → failed g v h site ≡ true
+threw_failed g v [] site t early run e = absurd (goes_on (body g t) _ (sym (ap outcome_in (plain_entered (body g t) early.body)) ∙ e))
+threw_failed g v (x ∷ h) site t early run e = here (threw_failed g v h site t early run.0) x.actor x.act run.1 e
   where
+    left : Statements
+    left = (rest g v h t).left
+
+    nowhere : waits_nowhere left ≡ true
+    nowhere = nowhere_left g v h t early
+
     older : (outcome_in (rest g v h t) ≡ Fails site → failed g v h site ≡ true) → (act : Act) → outcome_in (rest g v h t) ≡ Fails site → fails_by site act (rest g v h) || failed g v h site ≡ true
     older old act q = or_right (fails_by site act (rest g v h)) (failed g v h site) (old q)
 
-    here : (outcome_in (rest g v h t) ≡ Fails site → failed g v h site ≡ true) → (act : Act) → outcome_in (rest g v (after x.actor act h) t) ≡ Fails site → fails_by site act (rest g v h) || failed g v h site ≡ true
-    here old (Step s) q =
+    here : (outcome_in (rest g v h t) ≡ Fails site → failed g v h site ≡ true) → (a : Actor) (act : Act) → Allows g v h a act → outcome_in (rest g v (after a act h) t) ≡ Fails site → fails_by site act (rest g v h) || failed g v h site ≡ true
+    here old a (Step s) al q =
         elim (cases_Bool (nat_eq s.0 t)) [
-          | inl n ↦ absurd (no_step g v t (rest g v h t).left (requested g v h) (ending g v h) site (sym (ap outcome_in (if_true (nat_eq s.0 t) (stepped g v t (rest g v h t).left (requested g v h) (ending g v h)) (rest g v h t) n)) ∙ q))
-          | inr n ↦ older old (Step s) (sym (ap outcome_in (if_false (nat_eq s.0 t) (stepped g v t (rest g v h t).left (requested g v h) (ending g v h)) (rest g v h t) n)) ∙ q)
+          | inl n ↦ absurd (no_step g v t left (requested g v h) (ending g v h) site nowhere (sym (ap outcome_in (if_true (nat_eq s.0 t) (stepped g v t left (requested g v h) (ending g v h)) (rest g v h t) n)) ∙ q))
+          | inr n ↦ older old (Step s) (sym (ap outcome_in (if_false (nat_eq s.0 t) (stepped g v t left (requested g v h) (ending g v h)) (rest g v h t) n)) ∙ q)
         ]
-    here old (Worked s Done) q =
+    here old a (Worked s Done) al q =
         elim (cases_Bool (nat_eq s.0 t)) [
-          | inl n ↦ absurd (no_done (rest g v h t).left (sym (ap outcome_in (if_true (nat_eq s.0 t) (worked Done (rest g v h t).left) (rest g v h t) n)) ∙ q))
-          | inr n ↦ older old (Worked s Done) (sym (ap outcome_in (if_false (nat_eq s.0 t) (worked Done (rest g v h t).left) (rest g v h t) n)) ∙ q)
+          | inl n ↦ absurd (no_done left nowhere (sym (ap outcome_in (if_true (nat_eq s.0 t) (worked (task g t) Done left) (rest g v h t) n)) ∙ q))
+          | inr n ↦ older old (Worked s Done) (sym (ap outcome_in (if_false (nat_eq s.0 t) (worked (task g t) Done left) (rest g v h t) n)) ∙ q)
         ]
       where
-        no_done : (left : Statements) → outcome_in (worked Done left) ≡ Fails site → ⊥
-        no_done Nothing e = goes_on Nothing _ e
-        no_done (s ⨾ more) e = goes_on more _ e
-    here old (Worked s Failed) q =
+        no_done : (left : Statements) → waits_nowhere left ≡ true → outcome_in (worked (task g t) Done left) ≡ Fails site → ⊥
+        no_done Nothing n e = goes_on Nothing _ e
+        no_done (s ⨾ more) n e = on_other (task g t) more site (and_parts (each_in is_plain_one s) (waits_nowhere more) n).1 e
+    here old a (Worked s Failed) al q =
         elim (cases_Bool (nat_eq s.0 t)) [
           | inl n ↦
               or_left (fails_by site (Worked s Failed) (rest g v h)) (failed g v h site)
-              (subst (λ z. is_work site (rest g v h z).left ≡ true) (sym (same_number s.0 t n)) (work_site site (rest g v h t).left (sym (ap outcome_in (if_true (nat_eq s.0 t) (worked Failed (rest g v h t).left) (rest g v h t) n)) ∙ q)))
-          | inr n ↦ older old (Worked s Failed) (sym (ap outcome_in (if_false (nat_eq s.0 t) (worked Failed (rest g v h t).left) (rest g v h t) n)) ∙ q)
+              (subst (λ z. is_work site (rest g v h z).left ≡ true) (sym (same_number s.0 t n))
+              (work_site site (task g t) left nowhere (sym (ap outcome_in (if_true (nat_eq s.0 t) (worked (task g t) Failed left) (rest g v h t) n)) ∙ q)))
+          | inr n ↦ older old (Worked s Failed) (sym (ap outcome_in (if_false (nat_eq s.0 t) (worked (task g t) Failed left) (rest g v h t) n)) ∙ q)
         ]
-    here old act q = older old act q
+    here old a (Worked s JobCanceled) al q =
+        elim (cases_Bool (nat_eq s.0 t)) [
+          | inl n ↦ absurd (no_cancel left nowhere (subst (λ z. works JobCanceled (rest g v h z).left ≡ true) (same_number s.0 t n) al.2))
+          | inr n ↦ older old (Worked s JobCanceled) (sym (ap outcome_in (if_false (nat_eq s.0 t) (worked (task g t) JobCanceled left) (rest g v h t) n)) ∙ q)
+        ]
+    here old a (Resume s winner) al q =
+        elim (cases_Bool (nat_eq s.0 t)) [
+          | inl n ↦ absurd (never_resumed (task_number winner) left (ending g v h) nowhere (subst (λ z. resumes (task_number winner) (rest g v h z).left (ending g v h) ≡ true) (same_number s.0 t n) al.4))
+          | inr n ↦ older old (Resume s winner) (sym (ap outcome_in (if_false (nat_eq s.0 t) (resumed (task g t) (task_number winner) left (ending g v h)) (rest g v h t) n)) ∙ q)
+        ]
+    here old a act al q = older old act q
+
+site_in_finally : (c : ℕ) (handlers : Handlers) → mem c (sites (finally_of handlers)) ≡ true → mem c (sites_in handlers) ≡ true
+site_in_finally c (HandledBy canceled caught finally) m =
+    mem_right c (sites_by canceled) (sites_by caught ++ sites finally) (mem_right c (sites_by caught) (sites finally) m)
+
+site_in_catch : (c : ℕ) (handlers : Handlers) (outgoing : Outgoing) (list : Statements) → catcher handlers outgoing ≡ Present list → mem c (sites list) ≡ true → mem c (sites_in handlers) ≡ true
+site_in_catch c handlers outgoing list e m = by_catch handlers outgoing (subst (λ z. mem c (sites_by z) ≡ true) (sym e) m)
+  where
+    by_catch : (handlers : Handlers) (outgoing : Outgoing) → mem c (sites_by (catcher handlers outgoing)) ≡ true → mem c (sites_in handlers) ≡ true
+    by_catch handlers Returning n = true_false (sym n)
+    by_catch (HandledBy canceled caught finally) (Raising (Exception label)) n =
+        mem_right c (sites_by canceled) (sites_by caught ++ sites finally) (mem_left c (sites_by caught) (sites finally) n)
+    by_catch (HandledBy Absent caught finally) (Raising (Cancellation label)) n = mem_left c (sites_by caught) (sites finally) n
+    by_catch (HandledBy (Present x) caught finally) (Raising (Cancellation label)) n = mem_left c (sites x) (sites_by caught ++ sites finally) n
 
 -- a job that failed stands in the body of its task
 site_stands : (site : ℕ) → Stands (λ b. mem site (sites b) ≡ true) (λ s. mem site (sites_of s) ≡ true)
@@ -122,28 +194,40 @@ site_stands site = record {
   more = λ s rest. in_either site (sites_of s) (sites rest);
   in_if = λ i a b. in_either site (sites a) (sites b);
   in_when = λ f a b. in_either site (sites a) (sites b);
+  in_any = λ xs won a b. in_either site (sites a) (sites b);
+  in_try = λ a handlers. in_either site (sites a) (sites_in handlers);
+  in_catch = site_in_catch site;
+  in_finally = site_in_finally site;
+  behind_catch = λ raised finally. (λ x. x, λ x. x);
+  in_mark = λ o x. true_false (sym x);
 }
 
 next_work : (site : ℕ) (left : Statements) → is_work site left ≡ true → mem site (sites left) ≡ true
-next_work site (Work n m ⨾ more) x = or_left (nat_eq site n) (mem site (sites more)) (subst (λ z. nat_eq site z ≡ true) (sym (same_number n site x)) (same_self site))
+next_work site (Work n m c ⨾ more) x = or_left (nat_eq site n) (mem site (sites more)) (subst (λ z. nat_eq site z ≡ true) (sym (same_number n site x)) (same_self site))
 next_work site left x = true_false (sym x)
 
-failed_stands : (g : TaskGraph) (v : List Bool) (h : List Event) (site : ℕ) → Run g v h → failed g v h site ≡ true → (t : ℕ) × (outcome_in (rest g v h t) ≡ Fails site) × (mem site (sites (body g t)) ≡ true)
-failed_stands g v [] site run e = true_false (sym e)
-failed_stands g v (x ∷ h) site run e =
+work_stands : (g : TaskGraph) (v : List Bool) (h : List Event) (site t : ℕ) → is_work site (rest g v h t).left ≡ true → mem site (sites (body g t)) ≡ true
+work_stands g v h site t q =
+    rest_keeps (λ left. mem site (sites left) ≡ true → mem site (sites (body g t)) ≡ true) (stands_kept (site_stands site) (body g t)) g v h t (λ m. m) (next_work site (rest g v h t).left q)
+
+-- a job that failed, of a body that waits nowhere and is the only one with this job, is its label
+failed_label : (g : TaskGraph) (v : List Bool) (h : List Event) (site t : ℕ) → IsEarly (task g t) → ((s : ℕ) → mem site (sites (body g s)) ≡ true → s ≡ t) → Run g v h → failed g v h site ≡ true → outcome_in (rest g v h t) ≡ Fails site
+failed_label g v [] site t early only run e = true_false (sym e)
+failed_label g v (x ∷ h) site t early only run e =
     elim (or_cases (fails_by site x.act (rest g v h)) (failed g v h site) e) [
-      | inl now ↦ here x.act now
-      | inr old ↦ let w = failed_stands g v h site run.0 old in (w.0, threw_stays g v h x.actor x.act w.0 _ run.1 w.1, w.2)
+      | inl now ↦ here x.actor x.act run.1 now
+      | inr old ↦ threw_stays g v h x.actor x.act t _ run.1 (failed_label g v h site t early only run.0 old)
     ]
   where
-    here : (act : Act) → fails_by site act (rest g v h) ≡ true → (t : ℕ) × (outcome_in (rest g v (after x.actor act h) t) ≡ Fails site) × (mem site (sites (body g t)) ≡ true)
-    here (Worked t Failed) q = (
-      t.0,
-      ap outcome_in (if_true (nat_eq t.0 t.0) (worked Failed (rest g v h t.0).left) (rest g v h t.0) (same_self t.0)) ∙ fails_work site (rest g v h t.0).left q,
-      rest_keeps (λ left. mem site (sites left) ≡ true → mem site (sites (body g t.0)) ≡ true) (stands_kept (site_stands site) (body g t.0)) g v h t.0 (λ m. m) (next_work site (rest g v h t.0).left q),
-    )
-    here (Worked t Done) q = true_false (sym q)
-    here act q = true_false (sym q)
+    here : (a : Actor) (act : Act) → Allows g v h a act → fails_by site act (rest g v h) ≡ true → outcome_in (rest g v (after a act h) t) ≡ Fails site
+    here a (Worked s Failed) al q =
+        subst (λ z. outcome_in (rest g v (after a (Worked s Failed) h) z) ≡ Fails site) (only s.0 (work_stands g v h site s.0 q))
+        (ap outcome_in (if_true (nat_eq s.0 s.0) (worked (task g s.0) Failed (rest g v h s.0).left) (rest g v h s.0) (same_self s.0))
+        ∙ fails_work site (task g s.0) (rest g v h s.0).left (nowhere_left g v h s.0 (subst (λ z. IsEarly (task g z)) (sym (only s.0 (work_stands g v h site s.0 q))) early)) q)
+    here a (Worked s JobCanceled) al q =
+        absurd (no_cancel (rest g v h s.0).left (nowhere_left g v h s.0 (subst (λ z. IsEarly (task g z)) (sym (only s.0 (work_stands g v h site s.0 q))) early)) al.2)
+    here a (Worked s Done) al q = true_false (sym q)
+    here a act al q = true_false (sym q)
 
 -- a site stands in one body
 counted_both : (site : ℕ) (xs ys : List ℕ) → counted site (xs ++ ys) ≡ counted site xs + counted site ys
@@ -185,11 +269,12 @@ module _ (site : ℕ) (d : Task) (none : sites d.body ≡ []) where
   one_owner (x ∷ ts) (suc t) (suc u) le m n = let sum = one_more x ts in ap suc (one_owner ts t u (omega arith) m n)
 
 pub failed_by_its_label_lem : FailedByItsLabel
-failed_by_its_label_lem g v h site t valid run stands = (to, λ e. threw_failed g v h site.0 t (label_verdict (outcome_in (rest g v h t)) (WorkFailed site) e))
+failed_by_its_label_lem g v h site t valid early run stands = (to, λ e. threw_failed g v h site.0 t early run (label_verdict (outcome_in (rest g v h t)) (WorkFailed site) e))
   where
-    to : failed g v h site.0 ≡ true → label g v h t ≡ Some (WorkFailed site)
-    to e =
-        let w = failed_stands g v h site.0 run e in
+    only : (s : ℕ) → mem site.0 (sites (body g s)) ≡ true → s ≡ t
+    only s m =
         let few : counted site.0 (all_sites g) ≤ 1 = subst (λ z. z ≤ 1) (sym (is_count_by (counted site.0) (nat_eq site.0) refl (λ _ _. refl) (all_sites g))) (valid.sites_once site.0) in
-        let same = one_owner site.0 (record { kind = Root; body = Nothing; token = None; options = 0 }) refl g.tasks w.0 t few w.2 stands in
-        subst (λ z. label g v h z ≡ Some (WorkFailed site)) same (ap label_in w.1)
+        one_owner site.0 (record { kind = Root; body = Nothing; token = None; options = 0; is_async = false }) refl g.tasks s t few m stands
+
+    to : failed g v h site.0 ≡ true → label g v h t ≡ Some (WorkFailed site)
+    to e = ap label_in (failed_label g v h site.0 t early only run e)

@@ -1,5 +1,5 @@
 -- The exception of a task with a chain is observed in each complete run.
-use Rattle.std.proofs.Common.{◌≡◌, ℕ, ◌⊎◌, inl, inr, Bool, true, false, Option, Some, List, [], ◌∷◌, refl, sym, ap, ◌∙◌, subst, is_some}
+use Rattle.std.proofs.Common.{◌≡◌, ℕ, ◌⊎◌, inl, inr, Bool, true, false, Option, Some, None, List, [], ◌∷◌, refl, sym, ap, ◌∙◌, subst, is_some}
 use Rattle.std.proofs.lemmas.Option.{same_Some}
 use Rattle.tpl_model.specs.declared.finals.Final.{Final}
 use Rattle.tpl_model.specs.declared.finals.Final.TheVariants.{Faulted}
@@ -13,11 +13,11 @@ use Rattle.tpl_model.specs.Statements.{Statement, Observe, Statements, ◌⨾◌
 use Rattle.tpl_model.specs.Graph.{TaskGraph, TaskKind, Continues, WhenAny, kind, body, options, is_task}
 use Rattle.tpl_model.specs.declared.event.Event.{Event}
 use Rattle.tpl_model.specs.Facts.{Ending, begun, final_in, rest, started, ending, subject_in, subject_of, carried_in, outcome_in, is_observe}
-use Rattle.tpl_model.specs.Rules.{final, subject, Run, seen, sees, carried_by, label, label_in, Complete, to_end}
+use Rattle.tpl_model.specs.Rules.{final, subject, resumes, Run, seen, sees, carried_by, label, label_in, Complete, to_end}
 use Rattle.tpl_model.specs.Paths.{MustObserve, passes_observe}
 use Rattle.tpl_laws.specs.RowTests.{faulted_view}
 use Rattle.tpl_laws.proofs.Basics.{some_none, the_some}
-use Rattle.tpl_laws.proofs.Kept.{running_facts, ending_kept, begun_kept, final_of}
+use Rattle.tpl_laws.proofs.Kept.{status_facts, ending_kept, begun_kept, final_of}
 use Rattle.tpl_model.specs.Certificate.{PlainRow, Assumed, is_loud, TakesOver, Reads}
 use Rattle.tpl_laws.proofs.Execution.{passed, pushed, passes_or_stays, passes_running, stepped_or_before}
 use Rattle.tpl_laws.proofs.Follows.{Fits, follows, subject_kept, has_subject}
@@ -34,13 +34,19 @@ passed_begun g v [] t run e = true_false (sym e)
 passed_begun g v (e ∷ h) t run o =
     begun_kept h e.actor e.act t
     (elim (passes_or_stays g v h e.actor e.act t) [
-      | inl p ↦ (running_facts g v h e.actor t (passes_running g v h e.actor e.act t p run.1).0).2
+      | inl p ↦ (status_facts g v h t (passes_running g v h e.actor e.act t p run.1).0).2
       | inr same ↦ passed_begun g v h t run.0 (subst (λ z. passes_observe z ≡ true) same.1 o)
     ])
 
 pushed_observe : (left : Statements) (ps : List Statement) → passes_observe (pushed left ps) ≡ true → (is_observe left ≡ true) ⊎ (passes_observe ps ≡ true)
 pushed_observe (Observe ⨾ more) ps e = inl refl
 pushed_observe left ps e = inr e
+
+-- an await isn't Observe
+resumes_unobserved : (winner : Option ℕ) (left : Statements) (en : ℕ → Option Ending) → resumes winner left en ≡ true → is_observe left ≡ false
+resumes_unobserved None (Observe ⨾ more) en e = true_false (sym e)
+resumes_unobserved (Some w) (Observe ⨾ more) en e = true_false (sym e)
+resumes_unobserved winner left en e = refl
 
 -- the subject of a continuation of a task that carries something is that task
 subject_is : (g : TaskGraph) (v : List Bool) (h : List Event) (r y a : ℕ) (q : Ending) → Run g v h → kind g r ≡ Continues y → ending g v h y ≡ Some q → mem a q.carried ≡ true → subject g v h r ≡ Some y
@@ -58,10 +64,10 @@ Sees g v h r y q = (subject g v h r ≡ Some y) × (ending g v h y ≡ Some q)
 pub observed_by : (g : TaskGraph) (v : List Bool) (h : List Event) (r n y a : ℕ) (q : Ending) → Run g v h → kind g r ≡ Continues n → Sees g v h r y q → mem a q.carried ≡ true → passes_observe (passed g v h r) ≡ true → seen g v h a ≡ true
 observed_by g v [] r n y a q run k e m p = true_false (sym p)
 observed_by g v (ev ∷ h) r n y a q run k e m p =
-    elim (stepped_or_before is_observe passes_observe pushed_observe (λ site f more. refl) g v h ev.actor ev.act r run.1 p) [
+    elim (stepped_or_before is_observe passes_observe pushed_observe (λ site f c more. refl) resumes_unobserved g v h ev.actor ev.act r run.1 p) [
       | inl now ↦
           let runs = (passes_running g v h ev.actor ev.act r (inl now.0) run.1).0 in
-          let sees_y = saw (running_facts g v h ev.actor r runs).2 in
+          let sees_y = saw (status_facts g v h r runs).2 in
           or_left (sees g v h ev.act a) (seen g v h a)
           (subst (λ z. sees g v h z a ≡ true) (sym now.0)
           (and_from (is_observe (rest g v h r).left) (carried_by g v h (subject g v h r) a) now.1
@@ -101,9 +107,10 @@ seer_observes g l rows v h r n y a q now complete k allowed not_loud observes e 
     by_body : is_some (begun h r) ≡ true → is_some (outcome_in (rest g v h r)) ≡ true → seen g v h a ≡ true
     by_body b d =
         let vd = the_some (outcome_in (rest g v h r)) d in
-        let full = view_fits g v h l rows r now.run now.agrees now.ends b in
+        let full = view_fits g v h l rows r now.run now.agrees now.ends b (now.early r (begun_task g v h r now.run b)) in
         let w = faulted_view g l r in
         let fits : Fits g v h r w = record {
+          early = full.early;
           own = refl;
           inputs = full.inputs;
           quiet = full.quiet;

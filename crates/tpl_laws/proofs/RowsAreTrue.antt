@@ -10,16 +10,17 @@ use Rattle.tpl_model.specs.declared.outcome.Outcome.{Outcome}
 use Rattle.tpl_model.specs.declared.outcome.Outcome.TheVariants.{Returned}
 use Rattle.tpl_model.specs.Members.{mem}
 use Rattle.tpl_model.specs.Statements.{Statement, Statements, Nothing, ◌⨾◌}
-use Rattle.tpl_model.specs.Graph.{TaskGraph, TaskKind, Continues, WhenAny, task, kind, body, options}
+use Rattle.tpl_model.specs.Graph.{TaskGraph, TaskKind, Continues, WhenAny, task, kind, body, options, IsEarly, is_task}
+use Rattle.tpl_model.specs.declared.status.Status.TheVariants.{Running}
 use Rattle.tpl_model.specs.declared.status.Actor.{Actor}
 use Rattle.tpl_model.specs.declared.event.Act.{Act}
 use Rattle.tpl_model.specs.declared.event.Act.TheVariants.{Leave}
 use Rattle.tpl_model.specs.declared.event.Event.{Event}
 use Rattle.tpl_model.specs.Facts.{begun, left_body, rest, requested, failed, ending, subject_in, subject_of, outcome_in, outcome_of}
-use Rattle.tpl_model.specs.Rules.{final, IsRunning, Allows, Run, token_requested, token_requested_by}
+use Rattle.tpl_model.specs.Rules.{final, status, Allows, Run, token_requested, token_requested_by}
 use Rattle.tpl_model.specs.Paths.{Known, EndsPassing, Path}
 use Rattle.tpl_laws.proofs.Basics.{some_none, same_number}
-use Rattle.tpl_laws.proofs.Kept.{after, running_facts, final_kept, requested_kept, failed_kept}
+use Rattle.tpl_laws.proofs.Kept.{after, status_facts, final_kept, requested_kept, failed_kept}
 use Rattle.tpl_model.specs.Finals.{has}
 use Rattle.tpl_model.specs.Valid.{IsGraph}
 use Rattle.tpl_model.specs.Certificate.{PlainRow, row, Assumed, Agrees, is_loud, loud_token, one_ends, subject_ends, subject_set, view}
@@ -28,7 +29,7 @@ use Rattle.tpl_laws.proofs.Ready.{EndedSo, Ready, begun_ready, any_winner}
 use Rattle.tpl_laws.proofs.Follows.{Fits, FollowsBy, winner_some}
 
 -- a task that isn't running keeps what is left of its body
-pub rest_idle : (g : TaskGraph) (v : List Bool) (h : List Event) (a : Actor) (x : Act) (t : ℕ) → Allows g v h a x → (IsRunning g v h a t → ⊥) → (rest g v (after a x h) t ≡ rest g v h t) × (passed g v (after a x h) t ≡ passed g v h t)
+pub rest_idle : (g : TaskGraph) (v : List Bool) (h : List Event) (a : Actor) (x : Act) (t : ℕ) → Allows g v h a x → (status g v h t ≡ Running → ⊥) → (rest g v (after a x h) t ≡ rest g v h t) × (passed g v (after a x h) t ≡ passed g v h t)
 rest_idle g v h a x t al idle = elim (passes_or_stays g v h a x t) [ inl p ↦ absurd (idle (passes_running g v h a x t p al).0) | inr same ↦ same ]
 
 -- the body of a task that has left it is over
@@ -37,7 +38,7 @@ left_verdict g v [] t run e = true_false (sym e)
 left_verdict g v (e ∷ h) t run l = here (λ o. left_verdict g v h t run.0 o) e.actor e.act run.1 l
   where
     was : (left_body h t ≡ true → is_some (outcome_in (rest g v h t)) ≡ true) → (a : Actor) (x : Act) → Allows g v h a x → left_body h t ≡ true → is_some (outcome_in (rest g v (after a x h) t)) ≡ true
-    was old a x al o = subst (λ z. is_some (outcome_in z) ≡ true) (sym (rest_idle g v h a x t al (λ r. true_false (sym o ∙ (running_facts g v h a t r).1))).0) (old o)
+    was old a x al o = subst (λ z. is_some (outcome_in z) ≡ true) (sym (rest_idle g v h a x t al (λ r. true_false (sym o ∙ (status_facts g v h t r).1))).0) (old o)
 
     here : (left_body h t ≡ true → is_some (outcome_in (rest g v h t)) ≡ true) → (a : Actor) (x : Act) → Allows g v h a x → left_body (after a x h) t ≡ true → is_some (outcome_in (rest g v (after a x h) t)) ≡ true
     here old a (Leave s) al n =
@@ -61,8 +62,9 @@ one_ends_mem (x ∷ args) rows s f m e =
     ]
 
 -- the view of a task that has begun is true of the run
-pub view_fits : (g : TaskGraph) (v : List Bool) (h : List Event) (l : Assumed) (rows : List PlainRow) (t : ℕ) → Run g v h → Agrees g l v h → ((s : ℕ) (f : Final) → final g v h s ≡ Some f → has (row rows s).ends f ≡ true) → is_some (begun h t) ≡ true → Fits g v h t (view g l rows t)
-view_fits g v h l rows t run agrees ends b = record {
+pub view_fits : (g : TaskGraph) (v : List Bool) (h : List Event) (l : Assumed) (rows : List PlainRow) (t : ℕ) → Run g v h → Agrees g l v h → ((s : ℕ) (f : Final) → final g v h s ≡ Some f → has (row rows s).ends f ≡ true) → is_some (begun h t) ≡ true → IsEarly (task g t) → Fits g v h t (view g l rows t)
+view_fits g v h l rows t run agrees ends b early = record {
+  early = early;
   own = refl;
   inputs = agrees.inputs;
   quiet = λ k r. elim (cases_Bool (l.quiet k)) [ inl q ↦ true_false (sym r ∙ agrees.quiet k q) | inr q ↦ q ];
@@ -100,6 +102,7 @@ agrees_before g v h l a x al ag = record {
 -- rows whose ends and begins are true of a run
 pub record Upheld (g : TaskGraph) (l : Assumed) (rows : List PlainRow) (v : List Bool) (h : List Event) : Type 0 where
   pub valid : IsGraph g
+  pub early : (t : ℕ) → is_task g t → IsEarly (task g t)
   pub run : Run g v h
   pub agrees : Agrees g l v h
   pub ends : (t : ℕ) (f : Final) → final g v h t ≡ Some f → has (row rows t).ends f ≡ true

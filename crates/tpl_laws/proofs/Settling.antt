@@ -2,7 +2,7 @@
 use Rattle.std.proofs.Common.{◌≡◌, ℕ, zero, suc, ◌&&◌, ◌||◌, inl, inr, not, Bool, true, false, if◌then◌else◌, Option, None, List, [], ◌∷◌, refl, sym, ap, ◌∙◌, subst, arith, nat_eq, is_some, length, slice_index_or}
 use Rattle.tpl_model.specs.Members.{mem}
 use Rattle.tpl_model.specs.Statements.{Statement, Start, If, When, Statements, Nothing, ◌⨾◌, starts, starts_of, reads_nothing}
-use Rattle.tpl_model.specs.Graph.{TaskGraph, TaskKind, Root, Continues, WhenAll, WhenAny, kind, body, options, is_task, attached, IsParent, Task}
+use Rattle.tpl_model.specs.Graph.{TaskGraph, TaskKind, Root, Continues, WhenAll, WhenAny, kind, body, is_task, attached, may_attach, denies_children, IsParent, Task}
 use Rattle.tpl_model.specs.declared.status.Actor.{Actor}
 use Rattle.tpl_model.specs.declared.event.Act.{Act}
 use Rattle.tpl_model.specs.declared.event.Act.TheVariants.{Step, Leave, Close, Drop, Settle}
@@ -12,7 +12,6 @@ use Rattle.tpl_model.specs.Rules.{IsRunning, Allows, Run, can_settle, Settled, e
 use Rattle.tpl_model.specs.Valid.{HasSubject, IsGraph, IsTask, IdsOf, IdsWithin}
 use Rattle.tpl_laws.proofs.Basics.{the_some, is_some_of, same_number}
 use Rattle.tpl_laws.proofs.Kept.{after, running_facts, drop_facts, ending_new, ended_kept}
-use Rattle.tpl_model.specs.Options.{attached_to_parent, deny_child_attach}
 use Rattle.tpl_model.specs.Certificate.{IsBelow, child, deeper}
 use Rattle.tpl_laws.proofs.Execution.{StartedBy, started_parent, next_start}
 use Rattle.tpl_laws.proofs.Ready.{Ready, begun_ready, IsBody, begun_body}
@@ -29,7 +28,7 @@ beyond (x ∷ xs) (suc t) d e = beyond xs t d (omega arith)
 -- a place past the last task holds an empty root
 pub no_task : (g : TaskGraph) (t : ℕ) → length g.tasks ≤ t → (kind g t ≡ Root) × (body g t ≡ Nothing)
 no_task g t e =
-    let b = beyond g.tasks t (record { kind = Root; body = Nothing; token = None; options = 0 }) e in
+    let b = beyond g.tasks t (record { kind = Root; body = Nothing; token = None; options = 0; is_async = false }) e in
     (ap (λ z. z.kind) b, ap (λ z. z.body) b)
 
 -- so what has a child is a task of the graph, and what is of another kind
@@ -98,7 +97,7 @@ filter_mem f c (x ∷ xs) m e =
     pick false n = n
 
 pub attached_child : (g : TaskGraph) (p c : ℕ) → mem c (attached g p) ≡ true → IsParent g p c
-attached_child g p c m = mem_filter (λ d. attached_to_parent (options g d) && not (deny_child_attach (options g p))) c (starts (body g p)) m
+attached_child g p c m = mem_filter (λ d. may_attach g d && not (denies_children g p)) c (starts (body g p)) m
 
 -- a running task isn't settled
 pub settled_idle : (g : TaskGraph) (v : List Bool) (h : List Event) (a : Actor) (t : ℕ) → Run g v h → Settled g v h t → IsRunning g v h a t → ⊥

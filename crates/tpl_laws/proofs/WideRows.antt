@@ -15,12 +15,12 @@ use Rattle.tpl_model.specs.Paths.{passes_start}
 use Rattle.tpl_model.specs.Knowledge.{Fact, IsSettled, IsRequested, Knowledge, ChildEnd, as_facts, all, ending_as, throwing, at_throw}
 use Rattle.tpl_model.proofs.Known.{under_trans}
 use Rattle.tpl_model.proofs.KnownPaths.{told_by, later_by, is_burdened, burdens, facts_of, MayChoose, one, all_one, path_final, ending_as_falls, throwing_falls, ending_one, end_known, within_some, known_where_started, chooses, burdened_start, start_burdens, later_told}
-use Rattle.tpl_model.specs.Graph.{TaskGraph, TaskKind, Root, Child, Continues, WhenAll, WhenAny, task, kind, body, options, is_task, attached}
+use Rattle.tpl_model.specs.Graph.{TaskGraph, TaskKind, Root, Child, Continues, WhenAll, WhenAny, task, kind, body, options, is_task, attached, IsEarly}
 use Rattle.tpl_model.specs.declared.status.Actor.{Actor}
 use Rattle.tpl_model.specs.declared.event.Act.{Act}
 use Rattle.tpl_model.specs.declared.event.Event.{Event}
 use Rattle.tpl_model.specs.Facts.{Ending, begun, final_in, rest, started, starts_by, is_start, ending, carried_in, own_atom, those_started, outcome_in, body_final, requested, subject_in, subject_of}
-use Rattle.tpl_model.specs.Rules.{final, MayDrop, MayNotStart, MayCancel, Allows, Run, Settled, ended, token_requested, token_requested_by}
+use Rattle.tpl_model.specs.Rules.{final, resumes, MayDrop, MayNotStart, MayCancel, Allows, Run, Settled, ended, token_requested, token_requested_by}
 use Rattle.tpl_model.specs.Valid.{IsGraph}
 use Rattle.tpl_model.specs.Certificate.{row, is_loud, subject_ends, subject_set, Row, plain}
 use Rattle.tpl_model.specs.WiderRules.{begins_with, ends_with, once_ended, linked, child_end, WideAssumed, WideAgrees, with_winners, subject_left, wide_view, reading, asked_of, known_at_end, known_at_start, may_run, WideRunsRule, Way, ByBody, RootDropped, ChildDropped, DroppedEarly, DroppedLate, NotAllowed, way_final, MayEndBy, OwnRequested, SettledBefore, KnownThere, BeforeBegin, HoldsBy, BeginRule, WidelyClosed}
@@ -31,7 +31,7 @@ use Rattle.tpl_laws.proofs.Execution.{pushed, passed, StartedBy, started_parent,
 use Rattle.tpl_laws.proofs.Ready.{may_not_start_so, Ready, begun_ready, waiting_ready, IsBody, any_winner}
 use Rattle.tpl_laws.proofs.Follows.{Fits, Follows, follows, winner_some}
 use Rattle.tpl_laws.proofs.Settling.{child_rules, has_subject_of, attached_child, filter_mem, settled_kept, all_over_mem, children_over, started_by_parent}
-use Rattle.tpl_laws.proofs.Carrying.{Ends, drops, leaves, settled, BodyEnds, how_ends, carries_faulted, gathered_from, gathered_adds, gathered_keeps, those_mem, mem_those, body_faulted, carried_some}
+use Rattle.tpl_laws.proofs.Carrying.{Ends, drops, leaves, settled, BodyEnds, how_ends, carries_faulted, gathered_from, gathered_adds, gathered_keeps, those_mem, mem_those, body_faulted, carried_some, begun_task}
 use Rattle.tpl_laws.proofs.RowsAreTrue.{left_verdict, view_fits, one_ends_mem, requested_loud}
 use Rattle.tpl_laws.proofs.Arguments.{may_end_so}
 use Rattle.tpl_laws.proofs.Chains.{no_settle, ends_later}
@@ -58,10 +58,10 @@ fact_kept g v h a x (IsSettled t) valid run al e = settled_kept g v h a x t vali
 fact_kept g v h a x (IsRequested k) valid run al e = requested_kept g v h a x k e
 
 -- how the subject of a task that has begun has ended is left to it
-left_fits : (g : TaskGraph) (l : WideAssumed) (rows : List Row) (v : List Bool) (h : List Event) (t : ℕ) → Run g v h → WideAgrees g l v h → ((s : ℕ) (f : Final) → final g v h s ≡ Some f → has (row (plain rows) s).ends f ≡ true) → is_some (begun h t) ≡ true → Fits g v h t (wide_view g l rows t)
-left_fits g l rows v h t run agrees ends b =
-    let fits = view_fits g v h l.assumed (plain rows) t run agrees.agrees ends b in
-    record { own = fits.own; inputs = fits.inputs; quiet = fits.quiet; subject = by_kind (kind g t) fits.subject; jobs = fits.jobs }
+left_fits : (g : TaskGraph) (l : WideAssumed) (rows : List Row) (v : List Bool) (h : List Event) (t : ℕ) → Run g v h → WideAgrees g l v h → ((s : ℕ) (f : Final) → final g v h s ≡ Some f → has (row (plain rows) s).ends f ≡ true) → is_some (begun h t) ≡ true → IsEarly (task g t) → Fits g v h t (wide_view g l rows t)
+left_fits g l rows v h t run agrees ends b early =
+    let fits = view_fits g v h l.assumed (plain rows) t run agrees.agrees ends b early in
+    record { early = early; own = fits.own; inputs = fits.inputs; quiet = fits.quiet; subject = by_kind (kind g t) fits.subject; jobs = fits.jobs }
   where
     of_kind : (a : ℕ) (k : TaskKind) → kind g a ≡ k → ((s : ℕ) (f : Final) → subject_of k a (ending g v h a) ≡ Some s → final g v h s ≡ Some f → subject_ends k (options g t) a (plain rows) f ≡ true) → (s : ℕ) (f : Final) → subject_of k a (ending g v h a) ≡ Some s → final g v h s ≡ Some f → subject_ends (with_winners (l.wins a) k) (options g t) a (plain rows) f ≡ true
     of_kind a (WhenAny args) k old s f p q =
@@ -80,10 +80,16 @@ pushed_start : (c : ℕ) (left : Statements) (ps : List Statement) → passes_st
 pushed_start c (Start d ⨾ more) ps e = or_cases (nat_eq d c) (passes_start c ps) e
 pushed_start c left ps e = inr e
 
+-- an await starts nothing
+resumes_unstarted : (c : ℕ) (winner : Option ℕ) (left : Statements) (en : ℕ → Option Ending) → resumes winner left en ≡ true → is_start c left ≡ false
+resumes_unstarted c None (Start d ⨾ more) en e = true_false (sym e)
+resumes_unstarted c (Some w) (Start d ⨾ more) en e = true_false (sym e)
+resumes_unstarted c winner left en e = refl
+
 pub passes_started : (g : TaskGraph) (v : List Bool) (h : List Event) (p c : ℕ) → Run g v h → passes_start c (passed g v h p) ≡ true → started g v h c ≡ true
 passes_started g v [] p c run e = true_false (sym e)
 passes_started g v (e ∷ h) p c run m =
-    elim (stepped_or_before (is_start c) (passes_start c) (pushed_start c) (λ site f more. refl) g v h e.actor e.act p run.1 m) [
+    elim (stepped_or_before (is_start c) (passes_start c) (pushed_start c) (λ site f n more. refl) (resumes_unstarted c) g v h e.actor e.act p run.1 m) [
       | inl now ↦ or_left (starts_by c e.act (rest g v h)) (started g v h c) (subst (λ z. starts_by c z (rest g v h) ≡ true) (sym now.0) now.1)
       | inr old ↦ started_kept g v h e.actor e.act c (passes_started g v h p c run.0 old)
     ]
@@ -177,7 +183,7 @@ module _ (g : TaskGraph) (l : WideAssumed) (rows : List Row) (v : List Bool) (h 
   some_of_final a f e = let w = final_of (ending g v h a) f e in is_some_of (ending g v h a) w.0 w.1
 
   pub path_of : (t : ℕ) → is_some (begun h t) ≡ true → Follows (wide_view g l rows t) (body g t) (rest g v h t) (passed g v h t)
-  path_of t b = follows g v h t (wide_view g l rows t) now.run (left_fits g l rows v h t now.run now.agrees now.true_rows.ends b) (has_subject_of g t now.valid)
+  path_of t b = follows g v h t (wide_view g l rows t) now.run (left_fits g l rows v h t now.run now.agrees now.true_rows.ends b (now.closed t (begun_task g v h t now.run b)).early) (has_subject_of g t now.valid)
 
   -- what is known at the start of a child that is started
   start_known : (p c : ℕ) → StartedBy g v h c p → (known : Knowledge) × (known_at_start g l rows p c ≡ Some known) × ((k : ℕ) → known.requested k ≡ true → requested g v h k ≡ true)

@@ -8,7 +8,7 @@ use Rattle.tpl_model.specs.declared.outcome.Outgoing.TheVariants.{Returning, Rai
 use Rattle.tpl_model.specs.Statements.{Statement, Work, Await, Wait, AwaitAny, Try, Rethrow, Trying, Caught, Ending, Statements, Nothing, ◌⨾◌, followed_by, Handlers, HandledBy, Handler, Absent, Present, each_in, is_plain_one, waits_nowhere}
 use Rattle.tpl_model.specs.Limits.{statement_count, count_one, count_handlers, count_handler}
 use Rattle.tpl_model.specs.Graph.{Task}
-use Rattle.tpl_model.specs.Outwards.{Rest, on, leaving, enter, enter_at, enter_finally, finally_of, either_handler, catcher, handled, past_one, onwards}
+use Rattle.tpl_model.specs.Outwards.{Rest, on, entered, leaving, enter, enter_at, enter_finally, finally_of, either_handler, catcher, handled, past_one, onwards}
 
 -- a list, then what follows it
 pub count_ahead : (a more : Statements) → statement_count (followed_by a more) ≡ statement_count a + statement_count more
@@ -95,3 +95,39 @@ plain_outwards t o Nothing e = refl
 plain_outwards t o (s ⨾ more) e =
     let b = and_parts (each_in is_plain_one s) (waits_nowhere more) e in
     plain_past o s more (λ p. onwards t p more) b.0 ∙ plain_outwards t o more b.1
+
+-- nothing behind a list
+pub ahead_nothing : (a : Statements) → followed_by a Nothing ≡ a
+ahead_nothing Nothing = refl
+ahead_nothing (s ⨾ a) = ap (λ z. s ⨾ z) (ahead_nothing a)
+
+-- a body that begins has no more statements than its text, and isn't ended by one
+pub entered_fits : (body : Statements) → statement_count (entered body).left ≤ statement_count body
+entered_fits body = enter_fits body Nothing (on Nothing) (statement_count body) (omega arith) (omega arith)
+
+mutual
+  enter_open : (list more : Statements) (passed : Rest) → passed.outcome ≡ None → (enter list more passed).outcome ≡ None
+  enter_open Nothing more passed e = e
+  enter_open (s ⨾ rest) more passed e = enter_at_open s (followed_by rest more) (enter rest more passed) (enter_open rest more passed e)
+
+  enter_at_open : (s : Statement) (more : Statements) (passed : Rest) → passed.outcome ≡ None → (enter_at s more passed).outcome ≡ None
+  enter_at_open (Try list handlers) more passed e =
+      enter_open list (Trying handlers ⨾ more) (enter_finally handlers (Ending None ⨾ more) passed) (enter_finally_open handlers (Ending None ⨾ more) passed e)
+  enter_at_open s more passed e = refl
+
+  enter_finally_open : (handlers : Handlers) (more : Statements) (passed : Rest) → passed.outcome ≡ None → (enter_finally handlers more passed).outcome ≡ None
+  enter_finally_open (HandledBy canceled caught finally) more passed e = enter_open finally more passed e
+
+pub entered_open : (body : Statements) → (entered body).outcome ≡ None
+entered_open body = enter_open body Nothing (on Nothing) refl
+
+-- a body that waits nowhere begins with its text
+plain_at : (s : Statement) (more : Statements) (passed : Rest) → each_in is_plain_one s ≡ true → enter_at s more passed ≡ on (s ⨾ more)
+plain_at (Try list handlers) more passed e = true_false (sym e)
+plain_at s more passed e = refl
+
+pub plain_entered : (body : Statements) → waits_nowhere body ≡ true → entered body ≡ on body
+plain_entered Nothing e = refl
+plain_entered (s ⨾ rest) e =
+    plain_at s (followed_by rest Nothing) (enter rest Nothing (on Nothing)) (and_parts (each_in is_plain_one s) (waits_nowhere rest) e).0
+    ∙ ap (λ z. on (s ⨾ z)) (ahead_nothing rest)

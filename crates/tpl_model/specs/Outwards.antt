@@ -55,6 +55,10 @@ abbrev mutual
   pub enter_finally : Handlers → Statements → Rest → Rest
   enter_finally (HandledBy canceled caught finally) more passed = enter finally more passed
 
+-- what is left of a body that begins
+abbrev pub entered : Statements → Rest
+entered body = enter body Nothing (on Nothing)
+
 -- the finally of a try
 abbrev pub finally_of : Handlers → Statements
 finally_of (HandledBy canceled caught finally) = finally
