@@ -1,11 +1,12 @@
 -- The first fault of a certificate by the narrow rules, and when there is none.
+use Rattle.tpl_model.specs.Statements.{Nothing, waits_nowhere}
 use Rattle.tpl_model.specs.declared.rule_set.RuleSet.TheVariants.{Narrow}
 use Rattle.std.proofs.Common.{◌≡◌, ℕ, ◌+◌, ◌<◌, ◌++◌, ◌&&◌, Bool, true, false, Option, List, [], ◌∷◌, refl, sym, ap, arith, length, nat_eq, nat_lt, length-append}
 use Rattle.std.specs.Prelude.{◌↔◌, Decides}
 use Rattle.tpl_model.proofs.Truths.{true_false}
 use Rattle.std.specs.List.{AllByRecursion, AllZip}
 use Rattle.tpl_model.specs.declared.finals.Final.TheVariants.{RanToCompletion, Canceled, Faulted}
-use Rattle.tpl_model.specs.Graph.{TaskGraph, kind, is_task}
+use Rattle.tpl_model.specs.Graph.{TaskGraph, kind, is_task, Task, Root, IsEarly, WaitsNowhere}
 use Rattle.tpl_model.specs.Valid.{IsGraph}
 use Rattle.tpl_model.specs.declared.ids.TaskId.{TaskId}
 use Rattle.tpl_model.specs.declared.claim.Property.{Property}
@@ -17,7 +18,7 @@ use Rattle.tpl_laws.specs.Decided.{VerdictIsRight}
 use Rattle.tpl_laws.specs.PathLaws.{PathLaws}
 use Rattle.tpl_laws.specs.RowTests.{is_none, runs, ends, before, past, chain}
 use Rattle.tpl_laws.specs.ClaimTests.{proves}
-use Rattle.tpl_laws.specs.Verdict.{or_else, broken, first_broken, LeafFault, leaf_fault, leaves, tree_fault, claims_fault, rows_fit, are_plain, fits, misfit}
+use Rattle.tpl_laws.specs.Verdict.{or_else, broken, first_broken, LeafFault, leaf_fault, leaves, tree_fault, claims_fault, rows_fit, are_plain, fits, misfit, are_early}
 use Rattle.tpl_laws.specs.FirstFault.{Passes}
 use Rattle.tpl_laws.specs.Faults.{row_rules, Branch, leaves_of, leaf_rules, HasShape, certificates, IsFirstFault, FaultIsFirst, OneFirstFault}
 use Rattle.tpl_laws.proofs.Deciding.{same, both, both3, both4}
@@ -57,7 +58,7 @@ module _ (g : TaskGraph) (p : Property TaskId) where
   accepted_shape l (OnEnd t a b d) e =
       (e.0, accepted_shape (with_end l t RanToCompletion) a e.1, accepted_shape (with_end l t Canceled) b e.2, accepted_shape (with_end l t Faulted) d e.3)
   accepted_shape l (OnWinner n x a b) e = absurd e
-  accepted_shape l (RowsLeaf rows) e = (e.0, e.1, e.4)
+  accepted_shape l (RowsLeaf rows) e = (e.0, e.1, e.4, e.5)
   accepted_shape l LeastLeaf e = absurd e
 
   leaves_accepted : (l : Assumed) (tree : Tree) → HasShape g tree → AllByRecursion Passing (leaves_of l tree) → AcceptsTree g p l tree
@@ -69,7 +70,7 @@ module _ (g : TaskGraph) (p : Property TaskId) where
       let w = all_parted Passing (leaves_of (with_end l t Canceled) b) (leaves_of (with_end l t Faulted) d) q.1 in
       (s.0, leaves_accepted (with_end l t RanToCompletion) a s.1 q.0, leaves_accepted (with_end l t Canceled) b s.2 w.0, leaves_accepted (with_end l t Faulted) d s.3 w.1)
   leaves_accepted l (OnWinner n x a b) s e = absurd s
-  leaves_accepted l (RowsLeaf rows) s e = (s.0, s.1, e.0.0, e.0.1, s.2)
+  leaves_accepted l (RowsLeaf rows) s e = (s.0, s.1, e.0.0, e.0.1, s.2, s.3)
   leaves_accepted l LeastLeaf s e = absurd s
 
   count_leaves : (l : Assumed) (tree : Tree) → leaves tree ≡ length (leaves_of l tree)
@@ -129,6 +130,24 @@ plain_decided (r ∷ rows) = (
         both ((r.asked ≡ []) × (r.asks ≡ [])) (ArePlain rows) (is_none r.asked && is_none r.asks) (are_plain rows)
         (both (r.asked ≡ []) (r.asks ≡ []) (is_none r.asked) (is_none r.asks) (none_decided r.asked) (none_decided r.asks)) d
 
+-- the test finds just the graphs that wait nowhere
+early_task : (t : Task) → Decides (not t.is_async && waits_nowhere t.body) (IsEarly t)
+early_task t = (
+  λ e. let b = and_parts (not t.is_async) (waits_nowhere t.body) e in record { not_async = not-true t.is_async b.0; body = b.1 },
+  λ e. and_from (not t.is_async) (waits_nowhere t.body) (not_from_false t.is_async e.not_async) e.body,
+)
+
+early_list : (d : Task) (ts : List Task) → Decides (are_early ts) ((t : ℕ) → t < length ts → IsEarly (slice_index_or ts t d))
+early_list d [] = (λ e t l. absurd (omega arith), λ f. refl)
+early_list d (x ∷ ts) = (found, λ f. and_from (not x.is_async && waits_nowhere x.body) (are_early ts) ((early_task x).1 (f 0 (omega arith))) ((early_list d ts).1 (λ t l. f (suc t) (omega arith))))
+  where
+    found : are_early (x ∷ ts) ≡ true → (t : ℕ) → t < length (x ∷ ts) → IsEarly (slice_index_or (x ∷ ts) t d)
+    found e zero l = (early_task x).0 (and_parts (not x.is_async && waits_nowhere x.body) (are_early ts) e).0
+    found e (suc t) l = (early_list d ts).0 (and_parts (not x.is_async && waits_nowhere x.body) (are_early ts) e).1 t (omega arith)
+
+pub early_decided : (g : TaskGraph) → Decides (are_early g.tasks) (WaitsNowhere g)
+early_decided g = early_list (record { kind = Root; body = Nothing; token = None; options = 0; is_async = false }) g.tasks
+
 module _ (paths : PathLaws) (g : TaskGraph) (valid : IsGraph g) where
   -- shapes
   shape_decided : (tree : Tree) → Decides (fits g tree) (HasShape g tree)
@@ -138,7 +157,8 @@ module _ (paths : PathLaws) (g : TaskGraph) (valid : IsGraph g) where
       both4 (is_task g t) (HasShape g a) (HasShape g b) (HasShape g d) (nat_lt t (length g.tasks)) (fits g a) (fits g b) (fits g d) (below_decided t (length g.tasks)) (shape_decided a) (shape_decided b) (shape_decided d)
   shape_decided (OnWinner n x a b) = (λ e. true_false (sym e), λ n. absurd n)
   shape_decided (RowsLeaf rows) =
-      both3 (length rows ≡ length g.tasks) (IdsOfRows g (plain rows)) (ArePlain rows) (nat_eq (length rows) (length g.tasks)) (rows_fit g (plain rows)) (are_plain rows) (same (length rows) (length g.tasks)) (rows_decided g (plain rows)) (plain_decided rows)
+      both4 (length rows ≡ length g.tasks) (IdsOfRows g (plain rows)) (ArePlain rows) (WaitsNowhere g) (nat_eq (length rows) (length g.tasks)) (rows_fit g (plain rows)) (are_plain rows) (are_early g.tasks)
+      (same (length rows) (length g.tasks)) (rows_decided g (plain rows)) (plain_decided rows) (early_decided g)
   shape_decided LeastLeaf = (λ e. true_false (sym e), λ n. absurd n)
 
   abbrev leaf_tests : (p : Property TaskId) (b : Branch) → LeafTests g (leaf_rules g p b)

@@ -33,7 +33,7 @@ some_leaf_lem g claim tree v h valid acc run given =
     let l : WideAssumed = record { assumed = assumed_for Narrow g claim; wins = λ n x. true } in
     let agrees = given_agrees g v h claim.given given in
     let leaf = some_leaf g claim.body v h valid run l tree (record { agrees = agrees; winners = λ n x e. refl }) (λ s. refl) (tree_accepted g claim.body l tree acc) in
-    (leaf.rows, subst (λ z. HasRows z leaf.rows) (all_written g claim.body l tree acc) leaf.has, (wide_rows_lem g leaf.assumes leaf.rows v h valid leaf.closed run leaf.agrees).0)
+    (leaf.rows, subst (λ z. HasRows z leaf.rows) (all_written g claim.body l tree acc) leaf.has, (wide_rows_lem g leaf.assumes leaf.rows v h valid leaf.early leaf.closed run leaf.agrees).0)
 
 pub sound_lem : Soundness → WideSoundness → SoundByRules
 sound_lem sound wide Narrow g claims trees valid acc v h run = sound g claims trees valid acc v h run

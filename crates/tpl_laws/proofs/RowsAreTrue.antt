@@ -10,7 +10,7 @@ use Rattle.tpl_model.specs.declared.outcome.Outcome.{Outcome}
 use Rattle.tpl_model.specs.declared.outcome.Outcome.TheVariants.{Returned}
 use Rattle.tpl_model.specs.Members.{mem}
 use Rattle.tpl_model.specs.Statements.{Statement, Statements, Nothing, ◌⨾◌}
-use Rattle.tpl_model.specs.Graph.{TaskGraph, TaskKind, Continues, WhenAny, task, kind, body, options, IsEarly, is_task}
+use Rattle.tpl_model.specs.Graph.{TaskGraph, TaskKind, Continues, WhenAny, task, kind, body, options, IsEarly, WaitsNowhere}
 use Rattle.tpl_model.specs.declared.status.Status.TheVariants.{Running}
 use Rattle.tpl_model.specs.declared.status.Actor.{Actor}
 use Rattle.tpl_model.specs.declared.event.Act.{Act}
@@ -102,7 +102,7 @@ agrees_before g v h l a x al ag = record {
 -- rows whose ends and begins are true of a run
 pub record Upheld (g : TaskGraph) (l : Assumed) (rows : List PlainRow) (v : List Bool) (h : List Event) : Type 0 where
   pub valid : IsGraph g
-  pub early : (t : ℕ) → is_task g t → IsEarly (task g t)
+  pub early : WaitsNowhere g
   pub run : Run g v h
   pub agrees : Agrees g l v h
   pub ends : (t : ℕ) (f : Final) → final g v h t ≡ Some f → has (row rows t).ends f ≡ true

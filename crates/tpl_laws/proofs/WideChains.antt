@@ -22,7 +22,7 @@ use Rattle.tpl_laws.proofs.WideRows.{WideNow}
 pub wide_upheld : (g : TaskGraph) (l : WideAssumed) (rows : List Row) (v : List Bool) (h : List Event) → WideNow g l rows v h → Upheld g l.assumed (plain rows) v h
 wide_upheld g l rows v h now = record {
   valid = now.valid;
-  early = λ t i. (now.closed t i).early;
+  early = now.early;
   run = now.run;
   agrees = now.agrees.agrees;
   ends = now.true_rows.ends;

@@ -7,7 +7,7 @@ use Rattle.tpl_model.specs.declared.finals.Final.TheVariants.{RanToCompletion}
 use Rattle.tpl_model.specs.Finals.{has}
 use Rattle.tpl_model.specs.Members.{mem}
 use Rattle.tpl_model.specs.Knowledge.{Fact, IsSettled, IsRequested}
-use Rattle.tpl_model.specs.Graph.{TaskGraph, TaskKind, WhenAll, WhenAny, kind, is_task}
+use Rattle.tpl_model.specs.Graph.{TaskGraph, TaskKind, WhenAll, WhenAny, kind, is_task, WaitsNowhere}
 use Rattle.tpl_model.specs.declared.status.Actor.{Actor}
 use Rattle.tpl_model.specs.declared.event.Act.{Act}
 use Rattle.tpl_model.specs.declared.event.Event.{Event}
@@ -178,15 +178,15 @@ wide_before g v h l a x al ag = record {
 }
 
 -- the rows of a leaf that is closed by the wider rules are true of each run that agrees with it
-pub wide_now : (g : TaskGraph) (l : WideAssumed) (rows : List Row) (v : List Bool) (h : List Event) → IsGraph g → WidelyClosed g l rows → Run g v h → WideAgrees g l v h → WideNow g l rows v h
-wide_now g l rows v [] valid closed run ag = record { valid = valid; closed = closed; run = run; agrees = ag; true_rows = rows_at_first g l rows v valid closed ag }
-wide_now g l rows v (e ∷ h) valid closed run ag =
-    let now = wide_now g l rows v h valid closed run.0 (wide_before g v h l e.actor e.act run.1 ag) in
-    record { valid = valid; closed = closed; run = run; agrees = ag; true_rows = event_keeps g l rows v h now e.actor e.act run.1 ag }
+pub wide_now : (g : TaskGraph) (l : WideAssumed) (rows : List Row) (v : List Bool) (h : List Event) → IsGraph g → WaitsNowhere g → WidelyClosed g l rows → Run g v h → WideAgrees g l v h → WideNow g l rows v h
+wide_now g l rows v [] valid early closed run ag = record { valid = valid; early = early; closed = closed; run = run; agrees = ag; true_rows = rows_at_first g l rows v valid closed ag }
+wide_now g l rows v (e ∷ h) valid early closed run ag =
+    let now = wide_now g l rows v h valid early closed run.0 (wide_before g v h l e.actor e.act run.1 ag) in
+    record { valid = valid; early = early; closed = closed; run = run; agrees = ag; true_rows = event_keeps g l rows v h now e.actor e.act run.1 ag }
 
-pub begin_holds : (g : TaskGraph) (l : WideAssumed) (rows : List Row) (v : List Bool) (h : List Event) → IsGraph g → WidelyClosed g l rows → Run g v h → WideAgrees g l v h → BeginHolds g rows v h
-begin_holds g l rows v [] valid closed run ag = tt
-begin_holds g l rows v (e ∷ h) valid closed run ag =
+pub begin_holds : (g : TaskGraph) (l : WideAssumed) (rows : List Row) (v : List Bool) (h : List Event) → IsGraph g → WaitsNowhere g → WidelyClosed g l rows → Run g v h → WideAgrees g l v h → BeginHolds g rows v h
+begin_holds g l rows v [] valid early closed run ag = tt
+begin_holds g l rows v (e ∷ h) valid early closed run ag =
     let before = wide_before g v h l e.actor e.act run.1 ag in
-    let now = wide_now g l rows v h valid closed run.0 before in
-    ((λ t fact b m. let w = begins g v h e.actor e.act t run.0 run.1 b in ready_begins g l rows v h now t fact w.task w.ready w.not_requested m), begin_holds g l rows v h valid closed run.0 before)
+    let now = wide_now g l rows v h valid early closed run.0 before in
+    ((λ t fact b m. let w = begins g v h e.actor e.act t run.0 run.1 b in ready_begins g l rows v h now t fact w.task w.ready w.not_requested m), begin_holds g l rows v h valid early closed run.0 before)

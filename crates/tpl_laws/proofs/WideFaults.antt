@@ -1,11 +1,12 @@
 -- The first fault of a certificate of rows with tokens, and when there is none.
+use Rattle.tpl_laws.proofs.PlainFaults.{early_decided}
 use Rattle.std.proofs.lemmas.Bool.{ltb-true, lt-ltb}
 use Rattle.tpl_model.proofs.Truths.{true_false}
 use Rattle.std.proofs.Common.{◌≡◌, ℕ, ◌+◌, ◌<◌, ◌++◌, ◌&&◌, true, false, Option, List, [], ◌∷◌, refl, sym, ◌∙◌, ap, arith, length, nat_eq, nat_lt, length-append}
 use Rattle.std.specs.Prelude.{◌↔◌, Decides}
 use Rattle.std.specs.List.{AllByRecursion, AllZip}
 use Rattle.tpl_model.specs.declared.finals.Final.TheVariants.{RanToCompletion, Canceled, Faulted}
-use Rattle.tpl_model.specs.Graph.{TaskGraph, TaskKind, WhenAny, kind, is_task, is_token}
+use Rattle.tpl_model.specs.Graph.{TaskGraph, TaskKind, WhenAny, kind, is_task, is_token, WaitsNowhere}
 use Rattle.tpl_model.specs.Valid.{IsGraph}
 use Rattle.tpl_model.specs.declared.ids.TaskId.{TaskId}
 use Rattle.tpl_model.specs.declared.claim.Property.{Property}
@@ -17,7 +18,7 @@ use Rattle.tpl_model.specs.declared.fault.Rule.{Rule}
 use Rattle.tpl_model.specs.declared.fault.CertFault.TheVariants.{NotClosed}
 use Rattle.tpl_laws.specs.PathLaws.{PathLaws}
 use Rattle.tpl_laws.specs.RowTests.{implies}
-use Rattle.tpl_laws.specs.Verdict.{or_else, LeafFault, rows_fit, leaves}
+use Rattle.tpl_laws.specs.Verdict.{or_else, LeafFault, rows_fit, leaves, are_early}
 use Rattle.tpl_laws.specs.WiderTests.{each_begin, each_ending, wide_runs_by, wide_ends_by, begin_by, end_by, wide_chain, wide_broken, wide_proves, wide_first_broken, wide_leaf_fault, WideLeafIsRight}
 use Rattle.tpl_laws.specs.WideVerdict.{wide_tree_fault, wide_claims_fault, tokens_fit, may_have_winner, wide_fits, wide_misfit, has_tokens, WideTreeIsRight, WideVerdictIsRight}
 use Rattle.tpl_laws.specs.FirstFault.{Passes}
@@ -53,15 +54,15 @@ module _ (g : TaskGraph) (p : Property TaskId) where
   accepted_leaves l (OnWinner m x a b) e =
       all_joined Passing (wide_leaves_of g p (winner_split l m x true) a) (wide_leaves_of g p (winner_split l m x false) b) (accepted_leaves (winner_split l m x true) a e.1) (accepted_leaves (winner_split l m x false) b e.2)
   accepted_leaves l (RowsLeaf rows) e = (e.3, tt)
-  accepted_leaves l LeastLeaf e = (e, tt)
+  accepted_leaves l LeastLeaf e = (e.0, tt)
 
   accepted_shape : (l : WideAssumed) (tree : Tree) → AcceptsWideTree g p l tree → HasWideShape g tree
   accepted_shape l (OnInput i a b) e = (e.0, accepted_shape (input_split l i true) a e.1, accepted_shape (input_split l i false) b e.2)
   accepted_shape l (OnEnd t a b d) e =
       (e.0, accepted_shape (end_split l t RanToCompletion) a e.1, accepted_shape (end_split l t Canceled) b e.2, accepted_shape (end_split l t Faulted) d e.3)
   accepted_shape l (OnWinner m x a b) e = (e.0, accepted_shape (winner_split l m x true) a e.1, accepted_shape (winner_split l m x false) b e.2)
-  accepted_shape l (RowsLeaf rows) e = (e.0, e.1, e.2)
-  accepted_shape l LeastLeaf e = tt
+  accepted_shape l (RowsLeaf rows) e = (e.0, e.1, e.2, e.4)
+  accepted_shape l LeastLeaf e = e.1
 
   leaves_accepted : (l : WideAssumed) (tree : Tree) → HasWideShape g tree → AllByRecursion Passing (wide_leaves_of g p l tree) → AcceptsWideTree g p l tree
   leaves_accepted l (OnInput i a b) s e =
@@ -74,8 +75,8 @@ module _ (g : TaskGraph) (p : Property TaskId) where
   leaves_accepted l (OnWinner m x a b) s e =
       let q = all_parted Passing (wide_leaves_of g p (winner_split l m x true) a) (wide_leaves_of g p (winner_split l m x false) b) e in
       (s.0, leaves_accepted (winner_split l m x true) a s.1 q.0, leaves_accepted (winner_split l m x false) b s.2 q.1)
-  leaves_accepted l (RowsLeaf rows) s e = (s.0, s.1, s.2, e.0)
-  leaves_accepted l LeastLeaf s e = e.0
+  leaves_accepted l (RowsLeaf rows) s e = (s.0, s.1, s.2, e.0, s.3)
+  leaves_accepted l LeastLeaf s e = (e.0, s)
 
   count_leaves : (l : WideAssumed) (tree : Tree) → leaves tree ≡ length (wide_leaves_of g p l tree)
   count_leaves l (OnInput i a b) =
@@ -148,9 +149,9 @@ module _ (paths : PathLaws) (g : TaskGraph) (valid : IsGraph g) where
   shape_decided (OnWinner m x a b) =
       both3 (MayHaveWinner (kind g m) x) (HasWideShape g a) (HasWideShape g b) (may_have_winner (kind g m) x) (wide_fits g a) (wide_fits g b) (winner_decided (kind g m) x) (shape_decided a) (shape_decided b)
   shape_decided (RowsLeaf rows) =
-      both3 (length rows ≡ length g.tasks) (IdsOfRows g (plain rows)) (TokensOfRows g rows) (nat_eq (length rows) (length g.tasks)) (rows_fit g (plain rows)) (tokens_fit g rows)
-      (same (length rows) (length g.tasks)) (rows_decided g (plain rows)) (tokens_of_rows g rows)
-  shape_decided LeastLeaf = (λ e. tt, λ u. refl)
+      both4 (length rows ≡ length g.tasks) (IdsOfRows g (plain rows)) (TokensOfRows g rows) (WaitsNowhere g) (nat_eq (length rows) (length g.tasks)) (rows_fit g (plain rows)) (tokens_fit g rows) (are_early g.tasks)
+      (same (length rows) (length g.tasks)) (rows_decided g (plain rows)) (tokens_of_rows g rows) (early_decided g)
+  shape_decided LeastLeaf = early_decided g
 
   abbrev leaf_tests : (p : Property TaskId) (b : WideBranch) → LeafTests g (wide_leaf_rules g p b)
   leaf_tests p b = record {

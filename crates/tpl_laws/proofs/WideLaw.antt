@@ -249,7 +249,7 @@ tree_accepted g p l (OnWinner n x a b) acc = absurd acc
 tree_accepted g p l (RowsLeaf rows) acc =
     let n = more_is_assumed_lem g l.assumed (narrowed g l).assumed (plain rows) (narrowed_more g l) acc.2 in
     let m = tokens_are_more_lem g (narrowed g l) rows acc.4 n.0 in
-    (acc.0, acc.1, no_ids g rows acc.4, (m.0, m.1 p (n.1 p acc.3)))
+    (acc.0, acc.1, no_ids g rows acc.4, (m.0, m.1 p (n.1 p acc.3)), acc.5)
 tree_accepted g p l LeastLeaf acc = absurd acc
 
 pub tokens_accept_more_lem : TokensAcceptMore

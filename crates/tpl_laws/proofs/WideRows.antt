@@ -15,7 +15,7 @@ use Rattle.tpl_model.specs.Paths.{passes_start}
 use Rattle.tpl_model.specs.Knowledge.{Fact, IsSettled, IsRequested, Knowledge, ChildEnd, as_facts, all, ending_as, throwing, at_throw}
 use Rattle.tpl_model.proofs.Known.{under_trans}
 use Rattle.tpl_model.proofs.KnownPaths.{told_by, later_by, is_burdened, burdens, facts_of, MayChoose, one, all_one, path_final, ending_as_falls, throwing_falls, ending_one, end_known, within_some, known_where_started, chooses, burdened_start, start_burdens, later_told}
-use Rattle.tpl_model.specs.Graph.{TaskGraph, TaskKind, Root, Child, Continues, WhenAll, WhenAny, task, kind, body, options, is_task, attached, IsEarly}
+use Rattle.tpl_model.specs.Graph.{TaskGraph, TaskKind, Root, Child, Continues, WhenAll, WhenAny, task, kind, body, options, is_task, attached, IsEarly, WaitsNowhere}
 use Rattle.tpl_model.specs.declared.status.Actor.{Actor}
 use Rattle.tpl_model.specs.declared.event.Act.{Act}
 use Rattle.tpl_model.specs.declared.event.Event.{Event}
@@ -48,6 +48,7 @@ pub record WideTrue (g : TaskGraph) (l : WideAssumed) (rows : List Row) (v : Lis
 -- what holds before an event
 pub record WideNow (g : TaskGraph) (l : WideAssumed) (rows : List Row) (v : List Bool) (h : List Event) : Type 0 where
   pub valid : IsGraph g
+  pub early : WaitsNowhere g
   pub closed : WidelyClosed g l rows
   pub run : Run g v h
   pub agrees : WideAgrees g l v h
@@ -183,7 +184,7 @@ module _ (g : TaskGraph) (l : WideAssumed) (rows : List Row) (v : List Bool) (h 
   some_of_final a f e = let w = final_of (ending g v h a) f e in is_some_of (ending g v h a) w.0 w.1
 
   pub path_of : (t : ℕ) → is_some (begun h t) ≡ true → Follows (wide_view g l rows t) (body g t) (rest g v h t) (passed g v h t)
-  path_of t b = follows g v h t (wide_view g l rows t) now.run (left_fits g l rows v h t now.run now.agrees now.true_rows.ends b (now.closed t (begun_task g v h t now.run b)).early) (has_subject_of g t now.valid)
+  path_of t b = follows g v h t (wide_view g l rows t) now.run (left_fits g l rows v h t now.run now.agrees now.true_rows.ends b (now.early t (begun_task g v h t now.run b))) (has_subject_of g t now.valid)
 
   -- what is known at the start of a child that is started
   start_known : (p c : ℕ) → StartedBy g v h c p → (known : Knowledge) × (known_at_start g l rows p c ≡ Some known) × ((k : ℕ) → known.requested k ≡ true → requested g v h k ≡ true)

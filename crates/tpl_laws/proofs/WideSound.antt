@@ -9,7 +9,7 @@ use Rattle.tpl_model.specs.declared.finals.Final.TheVariants.{RanToCompletion, C
 use Rattle.tpl_model.specs.Finals.{is_final}
 use Rattle.tpl_model.specs.declared.status.Label.{Label}
 use Rattle.tpl_model.specs.Knowledge.{IsSettled}
-use Rattle.tpl_model.specs.Graph.{TaskGraph}
+use Rattle.tpl_model.specs.Graph.{TaskGraph, WaitsNowhere}
 use Rattle.tpl_model.specs.declared.event.Event.{Event}
 use Rattle.tpl_model.specs.declared.outcome.Outcome.TheVariants.{Threw}
 use Rattle.tpl_model.specs.Facts.{rest, ending, final_in, outcome_in, winner_of}
@@ -35,15 +35,15 @@ use Rattle.tpl_laws.proofs.Destinies.{destiny, destiny_ended, narrowed_agrees}
 use Rattle.tpl_laws.proofs.MainTheorem.{Shows, ALeaf, never_complete, given_agrees, input_agrees, end_agrees, is_taken, property_holds}
 
 pub wide_rows_lem : WideRowsAreTrue
-wide_rows_lem g l rows v h valid closed run agrees =
-    let now = wide_now g l rows v h valid closed run agrees in (
+wide_rows_lem g l rows v h valid early closed run agrees =
+    let now = wide_now g l rows v h valid early closed run agrees in (
       record {
         ends = now.true_rows.ends;
         runs = now.true_rows.runs;
         end = now.true_rows.end;
         observed = λ t c complete lb e. wide_chain_seen g l rows v h now complete t lb c e;
       },
-      begin_holds g l rows v h valid closed run agrees,
+      begin_holds g l rows v h valid early closed run agrees,
     )
 
 -- what a closed leaf proves, it shows
@@ -71,6 +71,7 @@ pub record AWideLeaf (g : TaskGraph) (p : Property TaskId) (tree : Tree) (v : Li
   pub has : HasRows tree rows
   pub agrees : WideAgrees g assumes v h
   pub closed : WidelyClosed g assumes rows
+  pub early : WaitsNowhere g
   pub proves : WidelyProves g assumes rows p
 
 -- it is found by taking at each split on an end the branch by which the task is bound to end, and at each split on a
@@ -119,7 +120,7 @@ module _ (g : TaskGraph) (p : Property TaskId) (v : List Bool) (h : List Event) 
 
   -- a leaf of a branch is one of the tree; one without rows has the least ones
   of_branch : (tree branch : Tree) → ((rows : List Row) → HasRows branch rows → HasRows tree rows) → AWideLeaf g p branch v h → AWideLeaf g p tree v h
-  of_branch tree branch has leaf = record { assumes = leaf.assumes; rows = leaf.rows; has = has leaf.rows leaf.has; agrees = leaf.agrees; closed = leaf.closed; proves = leaf.proves }
+  of_branch tree branch has leaf = record { assumes = leaf.assumes; rows = leaf.rows; has = has leaf.rows leaf.has; agrees = leaf.agrees; closed = leaf.closed; early = leaf.early; proves = leaf.proves }
 
   pub some_leaf : (l : WideAssumed) (tree : Tree) → WideAgrees g l v h → Bound l → AcceptsWideTree g p l tree → AWideLeaf g p (written g p l tree) v h
   some_leaf l (OnInput i a b) agrees bound acc =
@@ -142,15 +143,15 @@ module _ (g : TaskGraph) (p : Property TaskId) (v : List Bool) (h : List Event) 
       (λ won. of_branch (written g p l (OnWinner n x a b)) (written g p (winner_split l n x true) a) (λ rows h. inl h) (some_leaf (winner_split l n x true) a (takes_winner l n x true won agrees) bound acc.1))
       (λ won. of_branch (written g p l (OnWinner n x a b)) (written g p (winner_split l n x false) b) (λ rows h. inr h) (some_leaf (winner_split l n x false) b (takes_winner l n x false won agrees) bound acc.2))
   some_leaf l (RowsLeaf rows) agrees bound acc =
-      record { assumes = narrowed g l; rows = rows; has = refl; agrees = narrowed_agrees g v h valid run l agrees bound; closed = acc.3.0; proves = acc.3.1 }
+      record { assumes = narrowed g l; rows = rows; has = refl; agrees = narrowed_agrees g v h valid run l agrees bound; closed = acc.3.0; early = acc.4; proves = acc.3.1 }
   some_leaf l LeastLeaf agrees bound acc =
-      record { assumes = narrowed g l; rows = least_rows g (narrowed g l) p; has = refl; agrees = narrowed_agrees g v h valid run l agrees bound; closed = acc.0; proves = acc.1 }
+      record { assumes = narrowed g l; rows = least_rows g (narrowed g l) p; has = refl; agrees = narrowed_agrees g v h valid run l agrees bound; closed = acc.0.0; early = acc.1; proves = acc.0.1 }
 
 a_wide_leaf : (g : TaskGraph) (claim : Claim) (tree : Tree) (v : List Bool) (h : List Event) → IsGraph g → AcceptsWideTree g claim.body (widely_assumed g claim) tree → Run g v h → IsGiven g v h claim.given → IsGiven g v h (own_quiet g claim.body) → ALeaf g v h claim.body
 a_wide_leaf g claim tree v h valid acc run i q =
     let w = some_leaf g claim.body v h valid run (widely_assumed g claim) tree
     (record { agrees = given_agrees g v h (taken Wide g claim) (is_taken Wide g claim v h i q); winners = λ n x e. refl }) (λ s. refl) acc in
-    let now = wide_now g w.assumes w.rows v h valid w.closed run w.agrees in
+    let now = wide_now g w.assumes w.rows v h valid w.early w.closed run w.agrees in
     record {
       assumes = w.assumes.assumed;
       rows = plain w.rows;
@@ -172,4 +173,4 @@ wide_soundness_lem g (claim ∷ claims) [] valid acc v h run = absurd acc
 pub some_wide_leaf_lem : SomeWideLeafIsTrue
 some_wide_leaf_lem g claim tree v h valid acc run given =
     let leaf = some_leaf g claim.body v h valid run (widely_assumed g claim) tree (record { agrees = given_agrees g v h (taken Wide g claim) given; winners = λ n x e. refl }) (λ s. refl) acc in
-    (leaf.rows, leaf.has, (wide_rows_lem g leaf.assumes leaf.rows v h valid leaf.closed run leaf.agrees).0)
+    (leaf.rows, leaf.has, (wide_rows_lem g leaf.assumes leaf.rows v h valid leaf.early leaf.closed run leaf.agrees).0)

@@ -190,7 +190,7 @@ tree_more g p l m (OnEnd t a b c) more acc = (
   tree_more g p (with_end l t Faulted) (with_end m t Faulted) c (end_more l m t Faulted more) acc.3,
 )
 tree_more g p l m (OnWinner n x a b) more acc = absurd acc
-tree_more g p l m (RowsLeaf rows) more acc = (acc.0, acc.1, closed_more g l m (plain rows) more acc.2, proves_more g l m (plain rows) more p acc.3, acc.4)
+tree_more g p l m (RowsLeaf rows) more acc = (acc.0, acc.1, closed_more g l m (plain rows) more acc.2, proves_more g l m (plain rows) more p acc.3, acc.4, acc.5)
 tree_more g p l m LeastLeaf more acc = absurd acc
 
 -- with own tokens taken as quiet, the wide rules assume more

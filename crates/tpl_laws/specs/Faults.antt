@@ -5,7 +5,7 @@ use Rattle.tpl_model.specs.declared.finals.Final.{Final}
 use Rattle.tpl_model.specs.declared.finals.Final.TheVariants.{RanToCompletion, Canceled, Faulted}
 use Rattle.tpl_model.specs.Finals.{has}
 use Rattle.tpl_model.specs.Members.{mem}
-use Rattle.tpl_model.specs.Graph.{TaskGraph, kind, is_task}
+use Rattle.tpl_model.specs.Graph.{TaskGraph, kind, is_task, WaitsNowhere}
 use Rattle.tpl_model.specs.Valid.{IsGraph}
 use Rattle.tpl_model.specs.declared.ids.TaskId.{TaskId}
 use Rattle.tpl_model.specs.declared.claim.Property.{Property}
@@ -60,7 +60,7 @@ abbrev pub HasShape : TaskGraph → Tree → Type 0
 HasShape g (OnInput i on_true on_false) = (i < g.inputs) × HasShape g on_true × HasShape g on_false
 HasShape g (OnEnd t ran canceled faulted) = is_task g t × HasShape g ran × HasShape g canceled × HasShape g faulted
 HasShape g (OnWinner n x on_yes on_no) = ⊥
-HasShape g (RowsLeaf rows) = (length rows ≡ length g.tasks) × IdsOfRows g (plain rows) × ArePlain rows
+HasShape g (RowsLeaf rows) = (length rows ≡ length g.tasks) × IdsOfRows g (plain rows) × ArePlain rows × WaitsNowhere g
 HasShape g LeastLeaf = ⊥
 
 -- certificates of such trees

@@ -11,7 +11,7 @@ pub use Rattle.tpl_laws.specs.RunTests.{GivenIsRight, IsCompleteIsRight, IsSettl
 pub use Rattle.tpl_laws.specs.Runs.{FailedByItsLabel, IsBounded, NothingGoesBack, PrefixIsRun, QuietByALink, QuietWithSources, RequestedByASource, RequestedThroughSources, WithoutLinks, gives_quiet}
 pub use Rattle.tpl_laws.specs.Settling.{SettledBefore, SettledBeforeItsBegin, SettledWithoutBegin}
 pub use Rattle.tpl_laws.specs.Soundness.{Each, Soundness}
-pub use Rattle.tpl_laws.specs.Verdict.{are_plain, at_leaf, broken, claims_fault, first_broken, fits, has_tasks, leaf_fault, leaves, misfit, no_fault, past_rule, rows_fit, tree_fault, verdict}
+pub use Rattle.tpl_laws.specs.Verdict.{are_early, are_plain, at_leaf, broken, claims_fault, first_broken, fits, has_tasks, leaf_fault, leaves, misfit, no_fault, past_rule, rows_fit, tree_fault, verdict}
 pub use Rattle.tpl_laws.specs.WideFaults.{OneFirstWideFault, WideFaultIsFirst}
 pub use Rattle.tpl_laws.specs.WideTrees.{AcceptsWideTree, WidelyAccepts, all_written, written}
 pub use Rattle.tpl_laws.specs.WideVerdict.{WideTreeIsRight, WideVerdictIsRight, WideVerdictIsSound, has_tokens, may_have_winner, tokens_fit, wide_claims_fault, wide_fits, wide_misfit, wide_tree_fault, wide_verdict}

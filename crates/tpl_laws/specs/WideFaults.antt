@@ -2,7 +2,7 @@
 use Rattle.std.specs.Prelude.{◌≡◌, ℕ, ◌<◌, ◌++◌, true, false, Err, List, [], ◌∷◌, length}
 use Rattle.tpl_model.specs.declared.finals.Final.TheVariants.{RanToCompletion, Canceled, Faulted}
 use Rattle.tpl_model.specs.Knowledge.{Fact}
-use Rattle.tpl_model.specs.Graph.{TaskGraph, kind, is_task}
+use Rattle.tpl_model.specs.Graph.{TaskGraph, kind, is_task, WaitsNowhere}
 use Rattle.tpl_model.specs.Valid.{IsGraph}
 use Rattle.tpl_model.specs.declared.ids.TaskId.{TaskId}
 use Rattle.tpl_model.specs.declared.claim.Property.{Property}
@@ -56,8 +56,8 @@ abbrev pub HasWideShape : TaskGraph → Tree → Type 0
 HasWideShape g (OnInput i on_true on_false) = (i < g.inputs) × HasWideShape g on_true × HasWideShape g on_false
 HasWideShape g (OnEnd t ran canceled faulted) = is_task g t × HasWideShape g ran × HasWideShape g canceled × HasWideShape g faulted
 HasWideShape g (OnWinner n x on_yes on_no) = MayHaveWinner (kind g n) x × HasWideShape g on_yes × HasWideShape g on_no
-HasWideShape g (RowsLeaf rows) = (length rows ≡ length g.tasks) × IdsOfRows g (plain rows) × TokensOfRows g rows
-HasWideShape g LeastLeaf = Unit {0}
+HasWideShape g (RowsLeaf rows) = (length rows ≡ length g.tasks) × IdsOfRows g (plain rows) × TokensOfRows g rows × WaitsNowhere g
+HasWideShape g LeastLeaf = WaitsNowhere g
 
 -- certificates of such trees
 abbrev pub wide_certificates : TaskGraph → Certificates

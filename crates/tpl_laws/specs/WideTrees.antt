@@ -1,7 +1,7 @@
 -- When a certificate of rows that speak of tokens is accepted.
 use Rattle.std.specs.Prelude.{◌≡◌, ◌<◌, true, false, List, [], ◌∷◌, length}
 use Rattle.tpl_model.specs.declared.finals.Final.TheVariants.{RanToCompletion, Canceled, Faulted}
-use Rattle.tpl_model.specs.Graph.{TaskGraph, kind, is_task}
+use Rattle.tpl_model.specs.Graph.{TaskGraph, kind, is_task, WaitsNowhere}
 use Rattle.tpl_model.specs.declared.ids.TaskId.{TaskId}
 use Rattle.tpl_model.specs.declared.claim.Property.{Property}
 use Rattle.tpl_model.specs.Claims.{Claim}
@@ -13,8 +13,8 @@ use Rattle.tpl_laws.specs.LeastRows.{least_rows}
 abbrev pub AcceptsRows : TaskGraph → Property TaskId → WideAssumed → List Row → Type 0
 AcceptsRows g p l rows = WidelyClosed g l rows × WidelyProves g l rows p
 
--- each leaf of the tree is closed and proves the claim, where the ends that its splits left are narrowed; one without
--- rows with the least ones
+-- each leaf of the tree is closed and proves the claim, where the ends that its splits left are narrowed, and the graph
+-- waits nowhere; one without rows with the least ones
 abbrev pub AcceptsWideTree : TaskGraph → Property TaskId → WideAssumed → Tree → Type 0
 AcceptsWideTree g p l (OnInput i on_true on_false) =
     (i < g.inputs) × AcceptsWideTree g p (input_split l i true) on_true × AcceptsWideTree g p (input_split l i false) on_false
@@ -26,8 +26,8 @@ AcceptsWideTree g p l (OnEnd t ran canceled faulted) =
 AcceptsWideTree g p l (OnWinner n x on_yes on_no) =
     MayHaveWinner (kind g n) x × AcceptsWideTree g p (winner_split l n x true) on_yes × AcceptsWideTree g p (winner_split l n x false) on_no
 AcceptsWideTree g p l (RowsLeaf rows) =
-    (length rows ≡ length g.tasks) × IdsOfRows g (plain rows) × TokensOfRows g rows × AcceptsRows g p (narrowed g l) rows
-AcceptsWideTree g p l LeastLeaf = AcceptsRows g p (narrowed g l) (least_rows g (narrowed g l) p)
+    (length rows ≡ length g.tasks) × IdsOfRows g (plain rows) × TokensOfRows g rows × AcceptsRows g p (narrowed g l) rows × WaitsNowhere g
+AcceptsWideTree g p l LeastLeaf = AcceptsRows g p (narrowed g l) (least_rows g (narrowed g l) p) × WaitsNowhere g
 
 -- a certificate of such rows has one tree for each claim, and each is accepted
 abbrev pub WidelyAccepts : TaskGraph → List Claim → List Tree → Type 0

@@ -16,7 +16,7 @@ use Rattle.tpl_model.specs.WiderRules.{WideAssumed, narrowed, input_split, end_s
 use Rattle.tpl_laws.specs.WideTrees.{AcceptsWideTree, WidelyAccepts}
 use Rattle.tpl_laws.specs.RowTests.{all_in}
 use Rattle.tpl_laws.specs.Soundness.{Each}
-use Rattle.tpl_laws.specs.Verdict.{or_else, unless, leaves, at_leaf, rows_fit, no_fault}
+use Rattle.tpl_laws.specs.Verdict.{or_else, unless, leaves, at_leaf, rows_fit, no_fault, are_early}
 use Rattle.tpl_laws.specs.WiderTests.{wide_leaf_fault}
 use Rattle.tpl_laws.specs.LeastRows.{least_rows}
 
@@ -58,8 +58,8 @@ abbrev pub wide_fits : TaskGraph → Tree → Bool
 wide_fits g (OnInput i on_true on_false) = nat_lt i g.inputs && (wide_fits g on_true && wide_fits g on_false)
 wide_fits g (OnEnd t ran canceled faulted) = nat_lt t (length g.tasks) && (wide_fits g ran && (wide_fits g canceled && wide_fits g faulted))
 wide_fits g (OnWinner n x on_yes on_no) = may_have_winner (kind g n) x && (wide_fits g on_yes && wide_fits g on_no)
-wide_fits g (RowsLeaf rows) = nat_eq (length rows) (length g.tasks) && (rows_fit g (plain rows) && tokens_fit g rows)
-wide_fits g LeastLeaf = true
+wide_fits g (RowsLeaf rows) = nat_eq (length rows) (length g.tasks) && (rows_fit g (plain rows) && (tokens_fit g rows && are_early g.tasks))
+wide_fits g LeastLeaf = are_early g.tasks
 
 -- the first claim without a tree that fits, or tree without a claim
 abbrev pub wide_misfit : TaskGraph → ℕ → List Claim → List Tree → Option CertFault

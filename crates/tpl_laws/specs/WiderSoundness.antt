@@ -5,7 +5,7 @@ use Rattle.tpl_model.specs.declared.finals.Final.{Final}
 use Rattle.tpl_model.specs.Finals.{has}
 use Rattle.tpl_model.specs.declared.status.Label.{Label}
 use Rattle.tpl_model.specs.Knowledge.{Fact, IsSettled, IsRequested}
-use Rattle.tpl_model.specs.Graph.{TaskGraph}
+use Rattle.tpl_model.specs.Graph.{TaskGraph, WaitsNowhere}
 use Rattle.tpl_model.specs.declared.event.Event.{Event}
 use Rattle.tpl_model.specs.Facts.{begun, begun_by, requested, ending}
 use Rattle.tpl_model.specs.Rules.{final, label, seen, Run, Settled, Complete}
@@ -40,7 +40,7 @@ BeginHolds g rows v (e ∷ h) =
 abbrev pub WideRowsAreTrue : Type 0
 WideRowsAreTrue =
     (g : TaskGraph) (l : WideAssumed) (rows : List Row) (v : List Bool) (h : List Event)
-    → IsGraph g → WidelyClosed g l rows → Run g v h → WideAgrees g l v h → WideRowsHold g rows v h × BeginHolds g rows v h
+    → IsGraph g → WaitsNowhere g → WidelyClosed g l rows → Run g v h → WideAgrees g l v h → WideRowsHold g rows v h × BeginHolds g rows v h
 
 -- where a certificate of such rows is accepted, each claim holds in each run
 abbrev pub WideSoundness : Type 0

@@ -5,7 +5,7 @@ pub use Rattle.tpl_model.specs.Cursor.{BeginsWith, behind, behind_choice, chosen
 pub use Rattle.tpl_model.specs.Ends.{checked, either_end, ends_at, ends_in, only_if, then_ends}
 pub use Rattle.tpl_model.specs.Facts.{Ending, all_final, all_over, begun, begun_by, body_final, body_over, carried_in, earlier, ended_at_once, ending, failed, final_in, first_ended, gathered, has_final, is_observe, left_body, left_by, on, outcome_in, outcome_of, own_atom, place_in, released, requested, requested_itself, rest, settled_as, started, subject_in, those_started, winner_of, worked, worse, all_raised, as_exception, awaited, entered, first_raised, onwards, outgoing_of, raising, resumed, runner, task_number}
 pub use Rattle.tpl_model.specs.Finals.{IsPart, final_name, has, is_final}
-pub use Rattle.tpl_model.specs.Graph.{Child, Continues, IsParent, Linked, Root, TaskGraph, WhenAny, attached, body, is_task, is_token, kind, options, some_in, sources, task, IsEarly, is_async}
+pub use Rattle.tpl_model.specs.Graph.{Child, Continues, IsParent, Linked, Root, TaskGraph, WhenAny, attached, body, is_task, is_token, kind, options, some_in, sources, task, IsEarly, WaitsNowhere, is_async}
 pub use Rattle.tpl_model.specs.Journal.{IsSeat, own, same_actor}
 pub use Rattle.tpl_model.specs.Knowledge.{Fact, IsRequested, as_facts, at_end, at_start, at_throw, behind_start, both, ends_well, from, join, meet, nowhere, past_check, when, with_facts, with_tokens}
 pub use Rattle.tpl_model.specs.Limits.{IsWithinLimits, count_one, level_count, levels_in, statement_count, count_handlers, level_handlers}

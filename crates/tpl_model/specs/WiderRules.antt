@@ -7,7 +7,7 @@ use Rattle.tpl_model.specs.Options.{allows, lazy_cancellation}
 use Rattle.tpl_model.specs.Members.{mem}
 use Rattle.tpl_model.specs.Paths.{Known, MustObserve}
 use Rattle.tpl_model.specs.Knowledge.{Fact, IsSettled, IsRequested, Knowledge, ChildEnd, Reading, at_end, at_throw, at_start}
-use Rattle.tpl_model.specs.Graph.{TaskGraph, TaskKind, Root, Child, Continues, WhenAll, WhenAny, task, kind, body, options, is_task, is_token, attached, through, IsParent, IsEarly}
+use Rattle.tpl_model.specs.Graph.{TaskGraph, TaskKind, Root, Child, Continues, WhenAll, WhenAny, task, kind, body, options, is_task, is_token, attached, through, IsParent}
 use Rattle.tpl_model.specs.declared.event.Event.{Event}
 use Rattle.tpl_model.specs.Facts.{winner_of, ending}
 use Rattle.tpl_model.specs.Rules.{token_requested_by}
@@ -224,9 +224,8 @@ abbrev pub WideChainRule : TaskGraph → WideAssumed → List Row → ℕ → Li
 WideChainRule g l rows t [] = Unit {0}
 WideChainRule g l rows t (x ∷ chain) = WideLinks g l rows t (x ∷ chain)
 
--- the rules for the row of one task, which is as versions 1 to 3 have it: runs is K1, ends K2, begin K3, end K4 and K5, chain K6
+-- the rules for the row of one task: runs is K1, ends K2, begin K3, end K4 and K5, chain K6
 pub record IsWidelyClosed (g : TaskGraph) (l : WideAssumed) (rows : List Row) (t : ℕ) : Type 0 where
-  pub early : IsEarly (task g t)
   pub runs : WideRunsRule g l rows t (kind g t)
   pub ends : WideEndsRule g l rows t (kind_left g l t)
   pub begin : may_run rows t ≡ true → (fact : Fact) → begins_with rows t fact ≡ true → BeginRule g l rows t (kind g t) fact
