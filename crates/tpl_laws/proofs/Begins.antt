@@ -1,5 +1,5 @@
 -- Where a task begins.
-use Rattle.std.proofs.Common.{◌≡◌, ℕ, ◌⊎◌, inl, inr, Bool, true, false, Some, None, List, refl, sym, subst, is_some}
+use Rattle.std.proofs.Common.{◌≡◌, ℕ, ◌⊎◌, inl, inr, Bool, true, false, Some, None, List, refl, sym, subst, is_some, ap, ◌∙◌}
 use Rattle.std.proofs.lemmas.Bool.{cases_Bool}
 use Rattle.tpl_model.proofs.Truths.{true_false}
 use Rattle.tpl_model.specs.Graph.{TaskGraph, kind, is_task}
@@ -8,8 +8,8 @@ use Rattle.tpl_model.specs.declared.status.Status.TheVariants.{WaitingToRun}
 use Rattle.tpl_model.specs.declared.event.Act.{Act}
 use Rattle.tpl_model.specs.declared.event.Act.TheVariants.{Begin}
 use Rattle.tpl_model.specs.declared.event.Event.{Event}
-use Rattle.tpl_model.specs.Facts.{begun, begun_by}
-use Rattle.tpl_model.specs.Rules.{Allows, Run, token_requested}
+use Rattle.tpl_model.specs.Facts.{begun, begun_by, ending, started}
+use Rattle.tpl_model.specs.Rules.{Allows, Run, token_requested, Settled, ended, unstarted}
 use Rattle.tpl_laws.proofs.Basics.{if_false, same_number}
 use Rattle.tpl_laws.proofs.Kept.{after, waiting_facts}
 use Rattle.tpl_laws.proofs.Ready.{Ready, waiting_ready}
@@ -35,3 +35,13 @@ begun_now g v h a act t run al b =
       | inl q ↦ inr (q, begins g v h a act t run al q)
       | inr q ↦ inl (subst (λ z. is_some z ≡ true) (if_false (begun_by act t) (Some a) (begun h t) q) b)
     ]
+
+-- a settled task doesn't begin
+pub begins_unsettled : (g : TaskGraph) (v : List Bool) (h : List Event) (a : Actor) (act : Act) (t : ℕ) → Run g v h → Allows g v h a act → begun_by act t ≡ true → Settled g v h t → ⊥
+begins_unsettled g v h a (Begin s) t run al b (ended e) =
+    true_false (sym e ∙ ap is_some (subst (λ z. ending g v h z ≡ None) (same_number s.0 t b) (waiting_facts g v h s.0 WaitingToRun al.1 (inl refl)).0))
+begins_unsettled g v h a (Begin s) t run al b (unstarted k u par sp) =
+    let w = begins g v h a (Begin s) t run al b in
+    let ready : started g v h t ≡ true = subst (λ z. Ready g v h t z) k w.ready in
+    true_false (sym ready ∙ u)
+begins_unsettled g v h a act t run al b s = true_false (sym b)

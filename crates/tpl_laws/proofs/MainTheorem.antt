@@ -1,4 +1,6 @@
 -- Some leaf of each tree agrees with a run so far, and what leaves show of the beginnings of a run holds of it.
+use Rattle.tpl_model.specs.Valid.{IsGraph}
+use Rattle.tpl_laws.proofs.Settling.{settled_kept}
 use Rattle.tpl_model.specs.declared.rule_set.RuleSet.TheVariants.{Narrow, Wide}
 use Rattle.tpl_model.specs.declared.rule_set.RuleSet.{RuleSet}
 use Rattle.tpl_laws.proofs.Sources.{through_more, through_twice}
@@ -16,13 +18,13 @@ use Rattle.tpl_model.specs.Facts.{begun, begun_by, final_in, requested, failed, 
 use Rattle.tpl_model.specs.Rules.{final, Allows, Run, Settled, seen, label, token_requested, token_requested_by, to_end, Complete}
 use Rattle.tpl_model.specs.Claims.{input, Claim, IsGiven, SettledAtBegin, HoldsOf}
 use Rattle.tpl_laws.proofs.Basics.{if_false, some_none, the_some, same_number}
-use Rattle.tpl_laws.proofs.Kept.{after, requested_kept, failed_kept, final_kept}
+use Rattle.tpl_laws.proofs.Kept.{after, requested_kept, failed_kept, final_kept, begun_kept}
 use Rattle.tpl_model.specs.Certificate.{PlainRow, row, Assumed, Agrees, same, given_input, given_quiet, given_end, given_sure, assumed, with_input, with_end, NoneComplete, begins_itself, Proves, as_quiet, same_token, own_quiet, taken}
 use Rattle.tpl_laws.proofs.Ready.{IsBody}
-use Rattle.tpl_laws.proofs.Begins.{Begins, begins}
+use Rattle.tpl_laws.proofs.Begins.{Begins, begins, begun_now, begins_unsettled}
 use Rattle.tpl_laws.proofs.RowsAreTrue.{Upheld}
 use Rattle.tpl_model.specs.declared.claim.Given.{Given}
-use Rattle.tpl_model.specs.declared.claim.Given.TheVariants.{Input, Quiet, Ended, Succeeds}
+use Rattle.tpl_model.specs.declared.claim.Given.TheVariants.{Input, Quiet, Ended, Succeeds, Begins as GivenBegins, Never as GivenNever}
 use Rattle.tpl_model.specs.declared.claim.Property.{Property}
 use Rattle.tpl_model.specs.declared.claim.Property.TheVariants.{Final as EndsIn, After, Observed, Never, Excludes, Runs}
 use Rattle.tpl_laws.proofs.Arguments.{may_end_so}
@@ -49,12 +51,16 @@ given_inputs g v h (Input j value ∷ given) i k =
 given_inputs g v h (Quiet n ∷ given) i k = given_inputs g v h given i k.1
 given_inputs g v h (Ended t ends ∷ given) i k = given_inputs g v h given i k.1
 given_inputs g v h (Succeeds site ∷ given) i k = given_inputs g v h given i k.1
+given_inputs g v h (GivenBegins t ∷ given) i k = given_inputs g v h given i k.1
+given_inputs g v h (GivenNever t ∷ given) i k = given_inputs g v h given i k.1
 
 given_tokens : (g : TaskGraph) (v : List Bool) (h : List Event) (given : List Given) (k : ℕ) → IsGiven g v h given → given_quiet g given k ≡ true → requested g v h k ≡ false
 given_tokens g v h [] k i e = true_false (sym e)
 given_tokens g v h (Input j value ∷ given) k i e = given_tokens g v h given k i.1 e
 given_tokens g v h (Ended t ends ∷ given) k i e = given_tokens g v h given k i.1 e
 given_tokens g v h (Succeeds site ∷ given) k i e = given_tokens g v h given k i.1 e
+given_tokens g v h (GivenBegins t ∷ given) k i e = given_tokens g v h given k i.1 e
+given_tokens g v h (GivenNever t ∷ given) k i e = given_tokens g v h given k i.1 e
 given_tokens g v h (Quiet n ∷ given) k i e =
     elim (or_cases (through g (nat_eq k) n.0) (given_quiet g given k) e) [
       | inl q ↦ elim (cases_Bool (requested g v h k)) [
@@ -76,6 +82,8 @@ given_ends g v h (Ended s ends ∷ given) t f i e =
 given_ends g v h (Input j value ∷ given) t f i e = given_ends g v h given t f i.1 e
 given_ends g v h (Quiet n ∷ given) t f i e = given_ends g v h given t f i.1 e
 given_ends g v h (Succeeds site ∷ given) t f i e = given_ends g v h given t f i.1 e
+given_ends g v h (GivenBegins s ∷ given) t f i e = given_ends g v h given t f i.1 e
+given_ends g v h (GivenNever s ∷ given) t f i e = given_ends g v h given t f i.1 e
 
 -- a job that is given as one that succeeds hasn't failed
 given_jobs : (g : TaskGraph) (v : List Bool) (h : List Event) (given : List Given) (site : ℕ) → IsGiven g v h given → given_sure given site ≡ true → failed g v h site ≡ false
@@ -88,6 +96,8 @@ given_jobs g v h (Succeeds s ∷ given) site i e =
 given_jobs g v h (Input j value ∷ given) site i e = given_jobs g v h given site i.1 e
 given_jobs g v h (Quiet n ∷ given) site i e = given_jobs g v h given site i.1 e
 given_jobs g v h (Ended t ends ∷ given) site i e = given_jobs g v h given site i.1 e
+given_jobs g v h (GivenBegins t ∷ given) site i e = given_jobs g v h given site i.1 e
+given_jobs g v h (GivenNever t ∷ given) site i e = given_jobs g v h given site i.1 e
 
 pub given_agrees : (g : TaskGraph) (v : List Bool) (h : List Event) (given : List Given) → IsGiven g v h given → Agrees g (assumed g given) v h
 given_agrees g v h given i = record {
@@ -127,17 +137,28 @@ end_agrees g l v h t f ends agrees = record {
 
 -- the branch of a split on an end that a run takes
 -- what is given stays so towards the first event
-given_before : (g : TaskGraph) (v : List Bool) (h : List Event) (a : Actor) (x : Act) (given : List Given) → Allows g v h a x → IsGiven g v (after a x h) given → IsGiven g v h given
-given_before g v h a x [] al i = tt
-given_before g v h a x (Input j value ∷ given) al i = (i.0, given_before g v h a x given al i.1)
-given_before g v h a x (Quiet k ∷ given) al i = (
+given_before : (g : TaskGraph) (v : List Bool) (h : List Event) (a : Actor) (x : Act) (given : List Given) → IsGraph g → Run g v h → Allows g v h a x → IsGiven g v (after a x h) given → IsGiven g v h given
+given_before g v h a x [] valid run al i = tt
+given_before g v h a x (Input j value ∷ given) valid run al i = (i.0, given_before g v h a x given valid run al i.1)
+given_before g v h a x (Quiet k ∷ given) valid run al i = (
   elim (cases_Bool (requested g v h k.0)) [ inl r ↦ true_false (sym (requested_kept g v h a x k.0 r) ∙ i.0) | inr r ↦ r ],
-  given_before g v h a x given al i.1,
+  given_before g v h a x given valid run al i.1,
 )
-given_before g v h a x (Ended t ends ∷ given) al i = ((λ f e. i.0 f (final_kept g v h a x t.0 f al e)), given_before g v h a x given al i.1)
-given_before g v h a x (Succeeds site ∷ given) al i = (
+given_before g v h a x (Ended t ends ∷ given) valid run al i = ((λ f e. i.0 f (final_kept g v h a x t.0 f al e)), given_before g v h a x given valid run al i.1)
+given_before g v h a x (Succeeds site ∷ given) valid run al i = (
   elim (cases_Bool (failed g v h site.0)) [ inl r ↦ true_false (sym (failed_kept g v h a x site.0 r) ∙ i.0) | inr r ↦ r ],
-  given_before g v h a x given al i.1,
+  given_before g v h a x given valid run al i.1,
+)
+given_before g v h a x (GivenBegins t ∷ given) valid run al i = (
+  λ s. elim (begun_now g v h a x t.0 run al (i.0 (settled_kept g v h a x t.0 valid run al s))) [
+    | inl old ↦ old
+    | inr now ↦ absurd (begins_unsettled g v h a x t.0 run al now.0 s)
+  ],
+  given_before g v h a x given valid run al i.1,
+)
+given_before g v h a x (GivenNever t ∷ given) valid run al i = (
+  elim (cases_Bool (is_some (begun h t.0))) [ inl r ↦ true_false (sym (begun_kept h a x t.0 r) ∙ i.0) | inr r ↦ r ],
+  given_before g v h a x given valid run al i.1,
 )
 
 pub both_given : (g : TaskGraph) (v : List Bool) (h : List Event) (xs ys : List Given) → IsGiven g v h xs → IsGiven g v h ys → IsGiven g v h (xs ++ ys)
@@ -146,6 +167,8 @@ both_given g v h (Input n value ∷ xs) ys i j = (i.0, both_given g v h xs ys i.
 both_given g v h (Quiet k ∷ xs) ys i j = (i.0, both_given g v h xs ys i.1 j)
 both_given g v h (Ended t ends ∷ xs) ys i j = (i.0, both_given g v h xs ys i.1 j)
 both_given g v h (Succeeds site ∷ xs) ys i j = (i.0, both_given g v h xs ys i.1 j)
+both_given g v h (GivenBegins t ∷ xs) ys i j = (i.0, both_given g v h xs ys i.1 j)
+both_given g v h (GivenNever t ∷ xs) ys i j = (i.0, both_given g v h xs ys i.1 j)
 
 -- what may be taken as given is, where the claim's given is and the own tokens aren't requested
 pub is_taken : (rules : RuleSet) (g : TaskGraph) (claim : Claim) (v : List Bool) (h : List Event) → IsGiven g v h claim.given → IsGiven g v h (own_quiet g claim.body) → IsGiven g v h (taken rules g claim)
@@ -196,7 +219,7 @@ never_canceled g l rows v h t now i b n complete =
     by_kind k b = true_false (sym b)
 
 -- what some leaf shows of each run so far in which the given is true, and the own token isn't requested, holds
-module _ (g : TaskGraph) (given : List Given) (v : List Bool) where
+module _ (g : TaskGraph) (valid : IsGraph g) (given : List Given) (v : List Bool) where
   abbrev pub LeafOf : Property TaskId → Type 0
   LeafOf p = (h : List Event) → Run g v h → IsGiven g v h given → IsGiven g v h (own_quiet g p) → ALeaf g v h p
 
@@ -205,7 +228,7 @@ module _ (g : TaskGraph) (given : List Given) (v : List Bool) where
   after_holds a b leaf_of (e ∷ h) run i = ((λ s. here (begins g v h e.actor e.act b.0 run.0 run.1 s)), after_holds a b leaf_of h run.0 old)
     where
       old : IsGiven g v h given
-      old = given_before g v h e.actor e.act given run.1 i
+      old = given_before g v h e.actor e.act given valid run.0 run.1 i
 
       here : Begins g v h b.0 → Settled g v h a.0
       here w =
@@ -227,7 +250,7 @@ module _ (g : TaskGraph) (given : List Given) (v : List Bool) where
       ]
     where
       old : IsGiven g v h given
-      old = given_before g v h e.actor e.act given run.1 i
+      old = given_before g v h e.actor e.act given valid run.0 run.1 i
 
   -- the own token, where one of the two tasks begins
   own_of_two : (h : List Event) (a b : ℕ) → (token_requested g v h a ≡ false) ⊎ (token_requested g v h b ≡ false) → IsGiven g v h (if same_token (task g a).token (task g b).token then as_quiet (task g b).token else [])
@@ -245,10 +268,10 @@ module _ (g : TaskGraph) (given : List Given) (v : List Bool) where
   excludes_holds : (a b : TaskId) → LeafOf (Excludes a b) → (h : List Event) → Run g v h → IsGiven g v h given → is_some (begun h a.0) ≡ true → is_some (begun h b.0) ≡ true → ⊥
   excludes_holds a b leaf_of [] run i p q = true_false (sym p)
   excludes_holds a b leaf_of (e ∷ h) run i p q =
-      by_tests (λ x y. excludes_holds a b leaf_of h run.0 (given_before g v h e.actor e.act given run.1 i) x y) (cases_Bool (begun_by e.act a.0)) (cases_Bool (begun_by e.act b.0))
+      by_tests (λ x y. excludes_holds a b leaf_of h run.0 (given_before g v h e.actor e.act given valid run.0 run.1 i) x y) (cases_Bool (begun_by e.act a.0)) (cases_Bool (begun_by e.act b.0))
     where
       old : IsGiven g v h given
-      old = given_before g v h e.actor e.act given run.1 i
+      old = given_before g v h e.actor e.act given valid run.0 run.1 i
 
       begun_old : (t : ℕ) → begun_by e.act t ≡ false → is_some (begun (e ∷ h) t) ≡ true → is_some (begun h t) ≡ true
       begun_old t n s = sym (ap is_some (if_false (begun_by e.act t) (Some e.actor) (begun h t) n)) ∙ s

@@ -1,7 +1,8 @@
 -- The first fault of a certificate by the narrow rules, and when there is none.
+use Rattle.std.proofs.lemmas.Bool.{and_parts, and_from, not-true, not_from_false}
 use Rattle.tpl_model.specs.Statements.{Nothing, waits_nowhere}
 use Rattle.tpl_model.specs.declared.rule_set.RuleSet.TheVariants.{Narrow}
-use Rattle.std.proofs.Common.{◌≡◌, ℕ, ◌+◌, ◌<◌, ◌++◌, ◌&&◌, Bool, true, false, Option, List, [], ◌∷◌, refl, sym, ap, arith, length, nat_eq, nat_lt, length-append}
+use Rattle.std.proofs.Common.{◌≡◌, ℕ, ◌+◌, ◌<◌, ◌++◌, ◌&&◌, Bool, true, false, Option, List, [], ◌∷◌, refl, sym, ap, arith, length, nat_eq, nat_lt, length-append, zero, suc, not, None, slice_index_or}
 use Rattle.std.specs.Prelude.{◌↔◌, Decides}
 use Rattle.tpl_model.proofs.Truths.{true_false}
 use Rattle.std.specs.List.{AllByRecursion, AllZip}

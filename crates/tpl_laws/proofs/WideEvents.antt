@@ -23,7 +23,7 @@ use Rattle.tpl_laws.proofs.Ready.{IsBody, begun_body, drop_body, FirstIs, first_
 use Rattle.tpl_laws.proofs.Follows.{winner_some}
 use Rattle.tpl_laws.proofs.Begins.{begun_now, begins}
 use Rattle.tpl_laws.proofs.Settling.{below_settled, filter_mem, all_task}
-use Rattle.tpl_laws.proofs.Carrying.{Ends, drops, leaves, settled, how_ends}
+use Rattle.tpl_laws.proofs.Carrying.{Ends, drops, leaves, settled, how_ends, begun_task}
 use Rattle.tpl_laws.proofs.RowsAreTrue.{agrees_before}
 use Rattle.tpl_laws.proofs.Arguments.{end_of, all_ended_mem, all_is, all_may, may_end_so}
 use Rattle.tpl_laws.proofs.Telling.{told_kept, told_first}
@@ -143,10 +143,11 @@ module _ (g : TaskGraph) (l : WideAssumed) (rows : List Row) (v : List Bool) (h 
         | inr n ↦ ready_begins g l rows v h now t fact n.1.task n.1.ready n.1.not_requested m
       ]);
       end = end_after;
-      told = λ t b. told_kept l.assumed.quiet (asked_of rows t) g v h t a x al (elim (begun_now g v h a x t now.run al b) [
-        | inl o ↦ now.true_rows.told t o
-        | inr n ↦ told_first l.assumed.quiet (asked_of rows t) g v h t now.run n.1.unbegun (λ k m. ready_begins g l rows v h now t (IsRequested k) n.1.task n.1.ready n.1.not_requested m)
-      ]);
+      told = λ t b. elim (begun_now g v h a x t now.run al b) [
+        | inl o ↦ told_kept l.assumed.quiet (asked_of rows t) g v h t (now.early t (begun_task g v h t now.run o)) a x al (now.true_rows.told t o)
+        | inr n ↦ told_kept l.assumed.quiet (asked_of rows t) g v h t (now.early t n.1.task) a x al
+          (told_first l.assumed.quiet (asked_of rows t) g v h t (now.early t n.1.task) now.run n.1.unbegun (λ k m. ready_begins g l rows v h now t (IsRequested k) n.1.task n.1.ready n.1.not_requested m))
+      ];
     }
 
 -- before the first event only WhenAll of nothing has ended

@@ -164,7 +164,7 @@ a_wide_leaf g claim tree v h valid acc run i q =
 pub wide_soundness_lem : WideSoundness
 wide_soundness_lem g [] [] valid acc v h run = tt
 wide_soundness_lem g (claim ∷ claims) (tree ∷ trees) valid acc v h run = (
-  λ i. property_holds g claim.given v claim.body (λ k r j q. a_wide_leaf g claim tree v k valid acc.0 r j q) h run i,
+  λ i. property_holds g valid claim.given v claim.body (λ k r j q. a_wide_leaf g claim tree v k valid acc.0 r j q) h run i,
   wide_soundness_lem g claims trees valid acc.1 v h run,
 )
 wide_soundness_lem g [] (tree ∷ trees) valid acc v h run = tt

@@ -137,7 +137,8 @@ no_choice b s first h e = sym (choice_behind b s first h ∙ ap (λ x. followed_
 pub choice_made : (b inner : Statements) (s : Statement) (first : Bool) → BeginsWith b s → inner ≡ chosen s first → followed_by inner (behind b) ≡ behind_choice b first
 choice_made b inner s first h e = ap (λ x. followed_by x (behind b)) e ∙ sym (choice_behind b s first h)
 
-level_some : (b : Statements) → 1 ≤ level_count b
+-- a list has a level
+pub level_some : (b : Statements) → 1 ≤ level_count b
 level_some Nothing = omega arith
 level_some (s ⨾ rest) = omega (arith, level_some rest)
 

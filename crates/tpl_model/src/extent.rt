@@ -8,6 +8,7 @@ use crate::body::{Body, Handlers, Stmt};
 /// How many of `room` statements are left after those of the body. None where it has more, or where it
 /// nests deeper than `levels`.
 #[cycle(room)]
+#[tactic(auto, using(crate::proofs::Levels::level_some))]
 pub(crate) fn room_behind(body: &Body, room: u8, levels: u8) -> Option<u8>
     ensures fits { IfSome result (λ left. (left + statement_count body.now ≡ room)
         × (level_count body.now ≤ levels)) }
@@ -51,6 +52,7 @@ fn room_behind_statement(statement: &Stmt, room: u8, levels: u8) -> Option<u8>
 }
 
 #[cycle(room)]
+#[tactic(auto, using(crate::proofs::Levels::level_some))]
 fn room_behind_handlers(handlers: &Handlers, room: u8, levels: u8) -> Option<u8>
     ensures fits { IfSome result (λ left. (left + count_handlers (handlers_of handlers.now) ≡ room)
         × (level_handlers (handlers_of handlers.now) ≤ levels)) }

@@ -67,7 +67,7 @@ fn same_tasks(left: &[TaskId], right: &[TaskId]) -> bool
         return false;
     }
     for i in 0..left.len() {
-        if left[i] != right[i] {
+        if left[i].0 != right[i].0 {
             return false;
         }
     }
