@@ -4,7 +4,6 @@ use Rattle.std.proofs.lemmas.Option.{slice_get-map, slice_get-get_or}
 use Rattle.std.proofs.Common.{◌≡◌, ℕ, suc, ◌+◌, ◌<◌, ◌≤◌, List, [], ◌∷◌, length, map, get_or, refl, sym, ap, ◌∙◌, arith, ⊎_elim}
 use Rattle.std.specs.Prelude.{Some, slice_get}
 use Rattle.std.proofs.lemmas.Bool.{cases_eq}
-use Rattle.std.proofs.lemmas.List.{length-map}
 
 -- the lists are as long, and equal below the index
 pub record SameSoFar {A : Type 0} (xs ys : List A) (i : ℕ) : Type 0 where
@@ -41,28 +40,6 @@ differ_here xs ys i x y at_left at_right apart same =
     let both : Some x ≡ Some y = sym at_left ∙ (ap (λ l. slice_get l i) same ∙ at_right) in
     apart (cc)
 
-map_here : {A B : Type 0} (f : A → B) (xs : List A) (i : ℕ) (x : A) → i < length xs → x ≡ get_or xs i x → slice_get (map f xs) i ≡ Some (f x)
-map_here f xs i x lt is = slice_get-map f xs i ∙ (ap (option_map f) (slice_get-get_or xs i x lt) ∙ ap (λ y. Some (f y)) (sym is))
-
-
--- the same of what the elements of two lists stand for
-module _ {A B : Type 0} (f : A → B) (xs ys : List A) where
-  pub none_mapped : length xs ≡ length ys → SameSoFar (map f xs) (map f ys) 0
-  none_mapped long = none_compared (map f xs) (map f ys) (length-map xs f ∙ (long ∙ sym (length-map ys f)))
-
-  pub one_mapped : (i : ℕ) (x y : A) → i < length xs → x ≡ get_or xs i x → y ≡ get_or ys i y → f x ≡ f y → SameSoFar (map f xs) (map f ys) i → SameSoFar (map f xs) (map f ys) (i + 1)
-  one_mapped i x y lt at_left at_right same so_far =
-      let within : i < length ys = omega (arith, so_far.long, length-map xs f, length-map ys f) in
-      one_compared (map f xs) (map f ys) i (f x) (f y) (map_here f xs i x lt at_left) (map_here f ys i y within at_right) same so_far
-
-  pub all_mapped : (i : ℕ) → length xs ≤ i → SameSoFar (map f xs) (map f ys) i → map f xs ≡ map f ys
-  all_mapped i le so_far = all_compared (map f xs) (map f ys) i (omega (arith, length-map xs f)) so_far
-
-  pub differ_mapped : (i : ℕ) (x y : A) → i < length xs → x ≡ get_or xs i x → y ≡ get_or ys i y → (f x ≡ f y → ⊥) → SameSoFar (map f xs) (map f ys) i → map f xs ≡ map f ys → ⊥
-  differ_mapped i x y lt at_left at_right apart so_far same =
-      let within : i < length ys = omega (arith, so_far.long, length-map xs f, length-map ys f) in
-      differ_here (map f xs) (map f ys) i (f x) (f y) (map_here f xs i x lt at_left) (map_here f ys i y within at_right) apart same
-
-  -- equal lists are equally long
-  pub long_mapped : map f xs ≡ map f ys → length xs ≡ length ys
-  long_mapped same = sym (length-map xs f) ∙ (ap length same ∙ length-map ys f)
+-- what an element stands for, in the list of all
+pub mapped_at : {A B : Type 0} (f : A → B) (xs : List A) (i : ℕ) (d : A) → i < length xs → slice_get (map f xs) i ≡ Some (f (get_or xs i d))
+mapped_at f xs i d lt = slice_get-map f xs i ∙ ap (option_map f) (slice_get-get_or xs i d lt)

@@ -60,6 +60,12 @@ fn same_statement(left: &Stmt, right: &Stmt) -> bool
     }
 }
 
+fn same_task(left: &TaskId, right: &TaskId) -> bool
+    ensures { IsTrue result ↔ (left.now.0 ≡ right.now.0) }
+{
+    left.0 == right.0
+}
+
 fn same_tasks(left: &[TaskId], right: &[TaskId]) -> bool
     ensures { IsTrue result ↔ (numbers left.now ≡ numbers right.now) }
 {
@@ -67,7 +73,7 @@ fn same_tasks(left: &[TaskId], right: &[TaskId]) -> bool
         return false;
     }
     for i in 0..left.len() {
-        if left[i].0 != right[i].0 {
+        if !same_task(&left[i], &right[i]) {
             return false;
         }
     }

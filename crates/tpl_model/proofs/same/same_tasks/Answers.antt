@@ -1,14 +1,29 @@
 use Rattle.std.proofs.Common.{arith, refl}
+use Rattle.std.proofs.lemmas.List.{length-map}
 use Rattle.tpl_model.specs.declared.ids.TaskId.{TaskId}
-use Rattle.tpl_model.proofs.SameItems.{one_mapped, all_mapped, differ_mapped}
+use Rattle.tpl_model.proofs.SameItems.{one_compared, all_compared, differ_here, mapped_at}
 use Rattle.tpl_model.proofs.same.same_tasks.Goals as goal
 
-pub returns-then-ne : goal.returns-then-ne
-returns-then-ne c =
-    (λ e. cc, λ e. absurd (differ_mapped (λ (t : TaskId). t.0) _ _ c.loop-i.i _ _ (omega (arith, c.loop-i-test.true)) c.index-left-i.is c.index-right-i.is (λ same. let no = c.if-ne.true in cc) c.loop-i.invariant e))
+pub returns-then-not-same_task : goal.returns-then-not-same_task
+returns-then-not-same_task c =
+    let f = λ (t : TaskId). t.0 in
+    (
+      λ e. cc,
+      λ e. absurd (differ_here _ _ c.loop-i.i _ _
+          (mapped_at f c.args.left.now c.loop-i.i (record { 0 = 0 }) c.loop-i-test.true)
+          (mapped_at f c.args.right.now c.loop-i.i (record { 0 = 0 }) (omega (arith, c.loop-i-test.true, c.if-left-right.false)))
+          (λ same. let yes = c.same_task.ensures.1 same in let no = c.if-not-same_task.true in cc) e),
+    )
 
 pub loop-i-preserved : goal.loop-i-preserved
-loop-i-preserved c = one_mapped (λ (t : TaskId). t.0) _ _ c.loop-i.i _ _ (omega (arith, c.loop-i-test.true)) c.index-left-i.is c.index-right-i.is (let yes = c.if-ne.false in cc) c.loop-i.invariant
+loop-i-preserved c =
+    let f = λ (t : TaskId). t.0 in
+    one_compared _ _ c.loop-i.i _ _
+    (mapped_at f c.args.left.now c.loop-i.i (record { 0 = 0 }) c.loop-i-test.true)
+    (mapped_at f c.args.right.now c.loop-i.i (record { 0 = 0 }) (omega (arith, c.loop-i-test.true, c.if-left-right.false)))
+    (let yes = c.if-not-same_task.false in c.same_task.ensures.0 (cc)) c.loop-i.invariant
 
 pub returns : goal.returns
-returns c = (λ _. all_mapped (λ (t : TaskId). t.0) _ _ c.loop-i.i (omega (arith, c.loop-i-test.false)) c.loop-i.invariant, λ _. refl)
+returns c =
+    let f = λ (t : TaskId). t.0 in
+    (λ _. all_compared _ _ c.loop-i.i (omega (arith, c.loop-i-test.false, length-map c.args.left.now f)) c.loop-i.invariant, λ _. refl)
