@@ -6,17 +6,17 @@ use Rattle.tpl_model.proofs.MemberLemmas.{same_self}
 use Rattle.tpl_model.proofs.Truths.{true_false}
 use Rattle.tpl_model.specs.Graph.{TaskGraph}
 use Rattle.tpl_model.specs.declared.event.Event.{Event}
-use Rattle.tpl_model.specs.Facts.{requested, failed, ending}
+use Rattle.tpl_model.specs.Facts.{requested, failed, ending, begun}
 use Rattle.tpl_model.specs.Rules.{final, Run}
 use Rattle.tpl_model.specs.declared.claim.Given.{Given}
-use Rattle.tpl_model.specs.declared.claim.Given.TheVariants.{Input, Quiet, Ended, Succeeds}
+use Rattle.tpl_model.specs.declared.claim.Given.TheVariants.{Input, Quiet, Ended, Succeeds, Begins, Never as BeginsNot}
 use Rattle.tpl_model.specs.declared.claim.Property.TheVariants.{Final as EndsIn}
 use Rattle.tpl_model.specs.Certificate.{same, given_sure}
 use Rattle.tpl_model.specs.Claims.{input}
 use Rattle.tpl_laws.specs.RowTests.{implies}
-use Rattle.tpl_laws.specs.RunTests.{is_complete, is_given, ends_within}
+use Rattle.tpl_laws.specs.RunTests.{is_complete, is_given, ends_within, is_missed}
 use Rattle.tpl_laws.specs.ClaimTests.{holds_of, place_of, lost_at}
-use Rattle.tpl_laws.specs.Failing.{is_at, IsFrom, fails_from, Noted, is_broken, unless_broken, first_failure, FailureIsTold}
+use Rattle.tpl_laws.specs.Failing.{is_at, IsFrom, fails_from, Noted, is_broken, unless_broken, first_failure, FailureIsTold, gives_begins, gives_never}
 use Rattle.tpl_laws.specs.Runs.{gives_quiet}
 use Rattle.tpl_laws.proofs.FailingLemmas.{reached, is_reached, still_at}
 use Rattle.tpl_laws.proofs.ClaimsDecided.{fails_ended, fails_each}
@@ -37,19 +37,21 @@ still_one o n m x y le more e =
 broken_each : (g : TaskGraph) (v : List Bool) (later before : List Event) (noted : Noted) (given : List Given) → Run g v (later ++ before)
     → ((k : ℕ) → gives_quiet given k ≡ true → requested g v before k ≡ is_at (noted.asked k) (length before))
     → ((site : ℕ) → given_sure given site ≡ true → failed g v before site ≡ is_at (noted.failed site) (length before))
+    → ((t : ℕ) → gives_begins given t ≡ true → is_missed g v before t ≡ is_at (noted.missed t) (length before))
+    → ((t : ℕ) → gives_never given t ≡ true → is_some (begun before t) ≡ is_at (noted.begun t) (length before))
     → is_given g v before given ≡ not (is_broken g v (later ++ before) noted given (length before))
-broken_each g v later before noted [] run each jobs = refl
-broken_each g v later before noted (Input i value ∷ given) run each jobs = here (broken_each g v later before noted given run each jobs) (same (input v i.0) value)
+broken_each g v later before noted [] run each jobs missed begins = refl
+broken_each g v later before noted (Input i value ∷ given) run each jobs missed begins = here (broken_each g v later before noted given run each jobs missed begins) (same (input v i.0) value)
   where
     here : is_given g v before given ≡ not (is_broken g v (later ++ before) noted given (length before)) → (b : Bool) → b && is_given g v before given ≡ not (not b || is_broken g v (later ++ before) noted given (length before))
     here rest true = rest
     here rest false = refl
-broken_each g v later before noted (Quiet k ∷ given) run each jobs =
+broken_each g v later before noted (Quiet k ∷ given) run each jobs missed begins =
     one_more_broken (requested g v before k.0) (is_at (noted.asked k.0) (length before)) (is_given g v before given) (is_broken g v (later ++ before) noted given (length before))
     (each k.0 (or_left (nat_eq k.0 k.0) (gives_quiet given k.0) (same_self k.0)))
-    (broken_each g v later before noted given run (λ j e. each j (or_right (nat_eq k.0 j) (gives_quiet given j) e)) jobs)
-broken_each g v later before noted (Ended t ends ∷ given) run each jobs =
-    here (broken_each g v later before noted given run each jobs) (ends_within ends (final g v before t.0)) (fails_ended g v later before run t.0 ends)
+    (broken_each g v later before noted given run (λ j e. each j (or_right (nat_eq k.0 j) (gives_quiet given j) e)) jobs missed begins)
+broken_each g v later before noted (Ended t ends ∷ given) run each jobs missed begins =
+    here (broken_each g v later before noted given run each jobs missed begins) (ends_within ends (final g v before t.0)) (fails_ended g v later before run t.0 ends)
   where
     at : Bool
     at = is_at (if ends_within ends (final g v (later ++ before) t.0) then None else place_of (ending g v (later ++ before) t.0)) (length before)
@@ -57,10 +59,18 @@ broken_each g v later before noted (Ended t ends ∷ given) run each jobs =
     here : is_given g v before given ≡ not (is_broken g v (later ++ before) noted given (length before)) → (b : Bool) → not b ≡ at → b && is_given g v before given ≡ not (at || is_broken g v (later ++ before) noted given (length before))
     here rest true e = rest ∙ ap (λ z. not (z || is_broken g v (later ++ before) noted given (length before))) e
     here rest false e = ap (λ z. not (z || is_broken g v (later ++ before) noted given (length before))) e
-broken_each g v later before noted (Succeeds s ∷ given) run each jobs =
+broken_each g v later before noted (Succeeds s ∷ given) run each jobs missed begins =
     one_more_broken (failed g v before s.0) (is_at (noted.failed s.0) (length before)) (is_given g v before given) (is_broken g v (later ++ before) noted given (length before))
     (jobs s.0 (or_left (nat_eq s.0 s.0) (given_sure given s.0) (same_self s.0)))
-    (broken_each g v later before noted given run each (λ j e. jobs j (or_right (nat_eq s.0 j) (given_sure given j) e)))
+    (broken_each g v later before noted given run each (λ j e. jobs j (or_right (nat_eq s.0 j) (given_sure given j) e)) missed begins)
+broken_each g v later before noted (Begins s ∷ given) run each jobs missed begins =
+    one_more_broken (is_missed g v before s.0) (is_at (noted.missed s.0) (length before)) (is_given g v before given) (is_broken g v (later ++ before) noted given (length before))
+    (missed s.0 (or_left (nat_eq s.0 s.0) (gives_begins given s.0) (same_self s.0)))
+    (broken_each g v later before noted given run each jobs (λ j e. missed j (or_right (nat_eq s.0 j) (gives_begins given j) e)) begins)
+broken_each g v later before noted (BeginsNot s ∷ given) run each jobs missed begins =
+    one_more_broken (is_some (begun before s.0)) (is_at (noted.begun s.0) (length before)) (is_given g v before given) (is_broken g v (later ++ before) noted given (length before))
+    (begins s.0 (or_left (nat_eq s.0 s.0) (gives_never given s.0) (same_self s.0)))
+    (broken_each g v later before noted given run each jobs missed (λ j e. begins j (or_right (nat_eq s.0 j) (gives_never given j) e)))
 
 -- what is broken stays so
 still_broken : (g : TaskGraph) (v : List Bool) (h : List Event) (noted : Noted) (given : List Given) (n m : ℕ) → n ≤ m → is_broken g v h noted given n ≡ true → is_broken g v h noted given m ≡ true
@@ -73,6 +83,8 @@ still_broken g v h noted (Input i value ∷ given) n m le e =
 still_broken g v h noted (Quiet k ∷ given) n m le e = still_one (noted.asked k.0) n m (is_broken g v h noted given n) (is_broken g v h noted given m) le (still_broken g v h noted given n m le) e
 still_broken g v h noted (Ended t ends ∷ given) n m le e = still_one (fails_from g v h None (EndsIn t ends)) n m (is_broken g v h noted given n) (is_broken g v h noted given m) le (still_broken g v h noted given n m le) e
 still_broken g v h noted (Succeeds s ∷ given) n m le e = still_one (noted.failed s.0) n m (is_broken g v h noted given n) (is_broken g v h noted given m) le (still_broken g v h noted given n m le) e
+still_broken g v h noted (Begins s ∷ given) n m le e = still_one (noted.missed s.0) n m (is_broken g v h noted given n) (is_broken g v h noted given m) le (still_broken g v h noted given n m le) e
+still_broken g v h noted (BeginsNot s ∷ given) n m le e = still_one (noted.begun s.0) n m (is_broken g v h noted given n) (is_broken g v h noted given m) le (still_broken g v h noted given n m le) e
 
 -- a claim fails from the place of its property on, as long as what is given isn't broken
 
@@ -124,7 +136,7 @@ unless_within n (Some p) broken w = here (broken p)
     here false = w
 
 pub failure_is_told_lem : FailureIsTold
-failure_is_told_lem g v h complete noted claim valid run completes requests jobs = record {
+failure_is_told_lem g v h complete noted claim valid run completes requests jobs missed begins = record {
   within = unless_within (length h) (fails_from g v h complete claim.body) (is_broken g v h noted claim.given) (in_run (holds_of g v h claim.body) (lost_at g v h complete claim.body) fails_whole);
   before = λ later before same late. (told_at later before same).holds late;
   there = λ later before same at. (told_at later before same).fails at;
@@ -141,7 +153,7 @@ failure_is_told_lem g v h complete noted claim valid run completes requests jobs
         (still_broken g v h noted claim.given)
         (fails_at later before same)
         (subst (λ z. is_given g v before claim.given ≡ not (is_broken g v z noted claim.given (length before))) same
-        (broken_each g v later before noted claim.given (subst (Run g v) (sym same) run) (λ k q. (requests k q).each later before same) (λ site q. (jobs site q).each later before same)))
+        (broken_each g v later before noted claim.given (subst (Run g v) (sym same) run) (λ k q. (requests k q).each later before same) (λ site q. (jobs site q).each later before same) (λ t q. (missed t q).each later before same) (λ t q. (begins t q).each later before same)))
 
     fails_whole : not (holds_of g v h claim.body) ≡ is_at (fails_from g v h complete claim.body) (length h)
     fails_whole = fails_at [] h refl

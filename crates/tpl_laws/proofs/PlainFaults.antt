@@ -140,11 +140,14 @@ early_task t = (
 
 early_list : (d : Task) (ts : List Task) → Decides (are_early ts) ((t : ℕ) → t < length ts → IsEarly (slice_index_or ts t d))
 early_list d [] = (λ e t l. absurd (omega arith), λ f. refl)
-early_list d (x ∷ ts) = (found, λ f. and_from (not x.is_async && waits_nowhere x.body) (are_early ts) ((early_task x).1 (f 0 (omega arith))) ((early_list d ts).1 (λ t l. f (suc t) (omega arith))))
+early_list d (x ∷ ts) = (
+  found (early_list d ts).0,
+  λ f. and_from (not x.is_async && waits_nowhere x.body) (are_early ts) ((early_task x).1 (f 0 (omega arith))) ((early_list d ts).1 (λ t l. f (suc t) (omega arith))),
+)
   where
-    found : are_early (x ∷ ts) ≡ true → (t : ℕ) → t < length (x ∷ ts) → IsEarly (slice_index_or (x ∷ ts) t d)
-    found e zero l = (early_task x).0 (and_parts (not x.is_async && waits_nowhere x.body) (are_early ts) e).0
-    found e (suc t) l = (early_list d ts).0 (and_parts (not x.is_async && waits_nowhere x.body) (are_early ts) e).1 t (omega arith)
+    found : (are_early ts ≡ true → (t : ℕ) → t < length ts → IsEarly (slice_index_or ts t d)) → are_early (x ∷ ts) ≡ true → (t : ℕ) → t < length (x ∷ ts) → IsEarly (slice_index_or (x ∷ ts) t d)
+    found rest e zero l = (early_task x).0 (and_parts (not x.is_async && waits_nowhere x.body) (are_early ts) e).0
+    found rest e (suc t) l = rest (and_parts (not x.is_async && waits_nowhere x.body) (are_early ts) e).1 t (omega arith)
 
 pub early_decided : (g : TaskGraph) → Decides (are_early g.tasks) (WaitsNowhere g)
 early_decided g = early_list (record { kind = Root; body = Nothing; token = None; options = 0; is_async = false }) g.tasks

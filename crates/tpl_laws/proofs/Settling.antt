@@ -1,7 +1,7 @@
 -- What is settled stays so, and is settled below a settled task.
-use Rattle.std.proofs.Common.{◌≡◌, ℕ, zero, suc, ◌&&◌, ◌||◌, inl, inr, not, Bool, true, false, if◌then◌else◌, Option, None, List, [], ◌∷◌, refl, sym, ap, ◌∙◌, subst, arith, nat_eq, is_some, length, slice_index_or}
+use Rattle.std.proofs.Common.{◌≡◌, ℕ, zero, suc, ◌&&◌, ◌||◌, inl, inr, not, Bool, true, false, if◌then◌else◌, Option, None, List, [], ◌∷◌, refl, sym, ap, ◌∙◌, subst, arith, nat_eq, is_some, length, slice_index_or, ◌++◌}
 use Rattle.tpl_model.specs.Members.{mem}
-use Rattle.tpl_model.specs.Statements.{Statement, Start, If, When, Statements, Nothing, ◌⨾◌, starts, starts_of, reads_nothing}
+use Rattle.tpl_model.specs.Statements.{Statement, Start, If, When, Statements, Nothing, ◌⨾◌, starts, starts_of, reads_nothing, AwaitAny, Try, Trying, Caught, Handlers, HandledBy, Handler, Absent, Present, starts_in, starts_by as starts_by_handler}
 use Rattle.tpl_model.specs.Graph.{TaskGraph, TaskKind, Root, Continues, WhenAll, WhenAny, kind, body, is_task, attached, may_attach, denies_children, IsParent, Task}
 use Rattle.tpl_model.specs.declared.status.Actor.{Actor}
 use Rattle.tpl_model.specs.declared.event.Act.{Act}
@@ -9,7 +9,7 @@ use Rattle.tpl_model.specs.declared.event.Act.TheVariants.{Step, Leave, Close, D
 use Rattle.tpl_model.specs.declared.event.Event.{Event}
 use Rattle.tpl_model.specs.Facts.{Ending, begun, starts_by, ends_by, all_over, rest, started, ending}
 use Rattle.tpl_model.specs.Rules.{IsRunning, Allows, Run, can_settle, Settled, ended, unstarted}
-use Rattle.tpl_model.specs.Valid.{HasSubject, IsGraph, IsTask, IdsOf, IdsWithin}
+use Rattle.tpl_model.specs.Valid.{HasSubject, IsGraph, IsTask, IdsOf, IdsWithin, IdsWithinHandlers, IdsWithinHandler}
 use Rattle.tpl_laws.proofs.Basics.{the_some, is_some_of, same_number}
 use Rattle.tpl_laws.proofs.Kept.{after, running_facts, drop_facts, ending_new, ended_kept}
 use Rattle.tpl_model.specs.Certificate.{IsBelow, child, deeper}
@@ -60,7 +60,24 @@ mutual
       elim (mem_append c (starts a) (starts b) m) [ inl x ↦ start_ids g c a i.1 x | inr y ↦ start_ids g c b i.2 y ]
   start_ids_within g c (When f a b) i m =
       elim (mem_append c (starts a) (starts b) m) [ inl x ↦ start_ids g c a i.0 x | inr y ↦ start_ids g c b i.1 y ]
+  start_ids_within g c (AwaitAny xs won a b) i m =
+      elim (mem_append c (starts a) (starts b) m) [ inl x ↦ start_ids g c a i.1 x | inr y ↦ start_ids g c b i.2 y ]
+  start_ids_within g c (Try a handlers) i m =
+      elim (mem_append c (starts a) (starts_in handlers) m) [ inl x ↦ start_ids g c a i.0 x | inr y ↦ start_ids_handlers g c handlers i.1 y ]
+  start_ids_within g c (Trying handlers) i m = start_ids_handlers g c handlers i m
+  start_ids_within g c (Caught raised finally) i m = start_ids g c finally i m
   start_ids_within g c s i m = true_false (sym m)
+
+  start_ids_handlers : (g : TaskGraph) (c : ℕ) (handlers : Handlers) → IdsWithinHandlers g handlers → mem c (starts_in handlers) ≡ true → is_task g c
+  start_ids_handlers g c (HandledBy canceled caught finally) i m =
+      elim (mem_append c (starts_by_handler canceled) (starts_by_handler caught ++ starts finally) m) [
+        | inl x ↦ start_ids_handler g c canceled i.0 x
+        | inr y ↦ elim (mem_append c (starts_by_handler caught) (starts finally) y) [ inl x ↦ start_ids_handler g c caught i.1 x | inr z ↦ start_ids g c finally i.2 z ]
+      ]
+
+  start_ids_handler : (g : TaskGraph) (c : ℕ) (handler : Handler) → IdsWithinHandler g handler → mem c (starts_by_handler handler) ≡ true → is_task g c
+  start_ids_handler g c Absent i m = true_false (sym m)
+  start_ids_handler g c (Present list) i m = start_ids g c list i m
 
 -- a started child is a task with the rules of one
 pub child_task : (g : TaskGraph) (p c : ℕ) → IsGraph g → IsParent g p c → is_task g c

@@ -35,7 +35,7 @@ goes_on w u s more left k g = g
 
 ends_at : (w u : Known) (s : Statement) (outcome : Outcome) → KnowsMore w u → EndsAt u s outcome → EndsAt w s outcome
 ends_at w u (Check n) outcome k e = (k.loud n e.0, e.1 ∙ ap (λ o. cancellation o n) k.own)
-ends_at w u (Work site may_fail) outcome k e = (e.0, k.unsure site e.1, e.2)
+ends_at w u (Work site may_fail may_cancel) outcome k e = (e.0, k.unsure site e.1, e.2)
 ends_at w u s outcome k e = e
 
 passes : (w u : Known) (body : Statements) (ps : List Statement) (left : Statements) → KnowsMore w u → Passes u body ps left → Passes w body ps left

@@ -1,22 +1,22 @@
 -- From which place on a claim fails along a run, found from a few places of the whole run.
-use Rattle.std.specs.Prelude.{◌≡◌, ℕ, suc, ◌≤◌, ◌++◌, ◌||◌, not, Bool, true, false, if◌then◌else◌, Option, Some, None, IfSome, List, [], ◌∷◌, length, nat_le}
+use Rattle.std.specs.Prelude.{◌≡◌, ℕ, suc, ◌≤◌, ◌++◌, ◌||◌, not, Bool, true, false, if◌then◌else◌, Option, Some, None, IfSome, List, [], ◌∷◌, length, nat_le, nat_eq, is_some}
 use Rattle.tpl_model.specs.Graph.{TaskGraph}
 use Rattle.tpl_model.specs.declared.event.Act.{Act}
 use Rattle.tpl_model.specs.declared.event.Act.TheVariants.{Request}
 use Rattle.tpl_model.specs.declared.event.Event.{Event}
 use Rattle.tpl_model.specs.declared.ids.TokenId.{TokenId}
 use Rattle.tpl_model.specs.declared.status.Actor.{Actor}
-use Rattle.tpl_model.specs.Facts.{requested, failed}
+use Rattle.tpl_model.specs.Facts.{requested, failed, begun}
 use Rattle.tpl_model.specs.Rules.{Allows, Run, Complete}
 use Rattle.tpl_model.specs.Valid.{IsGraph}
 use Rattle.tpl_model.specs.declared.claim.Given.{Given}
-use Rattle.tpl_model.specs.declared.claim.Given.TheVariants.{Input, Quiet, Ended, Succeeds}
+use Rattle.tpl_model.specs.declared.claim.Given.TheVariants.{Input, Quiet, Ended, Succeeds, Begins, Never as BeginsNot}
 use Rattle.tpl_model.specs.declared.ids.TaskId.{TaskId}
 use Rattle.tpl_model.specs.declared.claim.Property.{Property}
 use Rattle.tpl_model.specs.declared.claim.Property.TheVariants.{Final as EndsIn}
 use Rattle.tpl_model.specs.Certificate.{same, given_sure}
 use Rattle.tpl_model.specs.Claims.{Claim, input}
-use Rattle.tpl_laws.specs.RunTests.{is_complete}
+use Rattle.tpl_laws.specs.RunTests.{is_complete, is_missed}
 use Rattle.tpl_laws.specs.ClaimTests.{holds_of, holds, lost_at}
 use Rattle.tpl_laws.specs.Runs.{gives_quiet}
 
@@ -39,10 +39,25 @@ or_now (Some p) now n = Some p
 abbrev pub fails_from : TaskGraph → List Bool → List Event → Option ℕ → Property TaskId → Option ℕ
 fails_from g v h complete p = if holds_of g v h p then None else lost_at g v h complete p
 
--- the places from which tokens are requested, and those from which jobs have failed
+-- the places from which tokens are requested, those from which jobs have failed, and those from which tasks have begun, or are
+-- settled and haven't
 pub record Noted : Type 0 where
   pub asked : ℕ → Option ℕ
   pub failed : ℕ → Option ℕ
+  pub begun : ℕ → Option ℕ
+  pub missed : ℕ → Option ℕ
+
+-- the task is given as one that begins
+abbrev pub gives_begins : List Given → ℕ → Bool
+gives_begins [] t = false
+gives_begins (Begins s ∷ given) t = nat_eq s.0 t || gives_begins given t
+gives_begins (other ∷ given) t = gives_begins given t
+
+-- the task is given as one that doesn't begin
+abbrev pub gives_never : List Given → ℕ → Bool
+gives_never [] t = false
+gives_never (BeginsNot s ∷ given) t = nat_eq s.0 t || gives_never given t
+gives_never (other ∷ given) t = gives_never given t
 
 -- at the place something of what is given isn't true of the run
 abbrev pub is_broken : TaskGraph → List Bool → List Event → Noted → List Given → ℕ → Bool
@@ -51,6 +66,8 @@ is_broken g v h noted (Input i value ∷ given) n = not (same (input v i.0) valu
 is_broken g v h noted (Quiet k ∷ given) n = is_at (noted.asked k.0) n || is_broken g v h noted given n
 is_broken g v h noted (Ended t ends ∷ given) n = is_at (fails_from g v h None (EndsIn t ends)) n || is_broken g v h noted given n
 is_broken g v h noted (Succeeds site ∷ given) n = is_at (noted.failed site.0) n || is_broken g v h noted given n
+is_broken g v h noted (Begins t ∷ given) n = is_at (noted.missed t.0) n || is_broken g v h noted given n
+is_broken g v h noted (BeginsNot t ∷ given) n = is_at (noted.begun t.0) n || is_broken g v h noted given n
 
 -- a property fails first at its place, unless what is given is broken there
 abbrev pub unless_broken : Option ℕ → (ℕ → Bool) → Option ℕ
@@ -75,6 +92,8 @@ FailureIsTold =
     → IsGraph g → Run g v h → IsFrom (is_complete g v) h complete
     → ((k : ℕ) → gives_quiet claim.given k ≡ true → IsFrom (λ before. requested g v before k) h (noted.asked k))
     → ((site : ℕ) → given_sure claim.given site ≡ true → IsFrom (λ before. failed g v before site) h (noted.failed site))
+    → ((t : ℕ) → gives_begins claim.given t ≡ true → IsFrom (λ before. is_missed g v before t) h (noted.missed t))
+    → ((t : ℕ) → gives_never claim.given t ≡ true → IsFrom (λ before. is_some (begun before t)) h (noted.begun t))
     → IsFirstFailure g v h claim (first_failure g v h complete noted claim)
 
 -- a run that is complete goes on with requests alone

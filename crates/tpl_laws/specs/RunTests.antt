@@ -53,6 +53,10 @@ abbrev pub ends_within : Finals → Option Final → Bool
 ends_within ends None = true
 ends_within ends (Some f) = has ends f
 
+-- the task is settled, and hasn't begun
+abbrev pub is_missed : TaskGraph → List Bool → List Event → ℕ → Bool
+is_missed g v h t = is_settled g v h t && not (is_some (begun h t))
+
 -- what is given is true of the run so far
 abbrev pub is_given : TaskGraph → List Bool → List Event → List Given → Bool
 is_given g v h [] = true
@@ -60,7 +64,7 @@ is_given g v h (Input i value ∷ given) = same (input v i.0) value && is_given 
 is_given g v h (Quiet k ∷ given) = not (requested g v h k.0) && is_given g v h given
 is_given g v h (Ended t ends ∷ given) = ends_within ends (final g v h t.0) && is_given g v h given
 is_given g v h (Succeeds site ∷ given) = not (failed g v h site.0) && is_given g v h given
-is_given g v h (Begins t ∷ given) = implies (is_settled g v h t.0) (is_some (begun h t.0)) && is_given g v h given
+is_given g v h (Begins t ∷ given) = not (is_missed g v h t.0) && is_given g v h given
 is_given g v h (BeginsNot t ∷ given) = not (is_some (begun h t.0)) && is_given g v h given
 
 -- the test of a task passes just where it is settled
