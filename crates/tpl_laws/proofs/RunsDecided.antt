@@ -70,7 +70,7 @@ ends_in ends (Some f) = (λ e x same. ap (has ends) (let it : x ≡ f = cc in it
 
 misses : (P : Type 0) (a b : Bool) → Decides a P → Decides (not (a && not b)) (P → b ≡ true)
 misses P true true p = (λ e x. refl, λ f. refl)
-misses P true false p = (λ e x. absurd (cc), λ f. sym (f (p.0 refl)) ∙ f (p.0 refl))
+misses P true false p = (λ e x. e, λ f. f (p.0 refl))
 misses P false b p = (λ e x. let no = p.1 x in absurd (cc), λ f. refl)
 
 pub given_lem : (g : TaskGraph) (v : List Bool) (h : List Event) (given : List Given) → IsGraph g → Decides (is_given g v h given) (IsGiven g v h given)
