@@ -41,3 +41,4 @@ pub mod Wider
 pub mod WideLaw
 pub mod PlainSound
 pub mod Jobs
+mod WorkedTries
