@@ -1,4 +1,5 @@
 """The scripts of examples/ and of this folder, and the program's version, help and progress on a terminal."""
+import contextlib
 import json
 import os
 import pathlib
@@ -87,6 +88,15 @@ def test_the_example_of_a_command_works(program, command: str):
     assert ended.stdout and ended.returncode in (0, 1), ended
 
 
+def read_to_end(leader: int) -> bytes:
+    """What was written to a terminal, once no process has its other end: one read may give only what has got through so far."""
+    read = b""
+    with contextlib.suppress(OSError):
+        while piece := os.read(leader, 10_000):
+            read += piece
+    return read
+
+
 def on_terminal(program: Program, *words: str, stream: str, document: str | pathlib.Path = os.devnull) -> str:
     """What the program writes to a terminal that is its standard input, or its standard error while it reads a document."""
     leader, follower = pty.openpty()
@@ -97,13 +107,13 @@ def on_terminal(program: Program, *words: str, stream: str, document: str | path
             stdout=subprocess.DEVNULL,
             stderr=follower if stream == "stderr" else subprocess.PIPE,
         ) as started:
+            os.close(follower)
             if stream == "stdin":
                 os.write(leader, b"\x04")
                 return started.communicate(timeout=LIMIT)[1].decode()
             started.wait(timeout=LIMIT)
-            return os.read(leader, 10_000).decode()
+        return read_to_end(leader).decode()
     finally:
-        os.close(follower)
         os.close(leader)
 
 
