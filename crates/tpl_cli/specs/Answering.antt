@@ -17,6 +17,7 @@ use Rattle.tpl_report.specs.declared.telling.Telling.{Telling}
 use Rattle.tpl_report.specs.declared.telling.Telling.TheVariants.{Report, Whole}
 use Rattle.tpl_trace.specs.Answer.{Traced, Traces}
 use Rattle.tpl_verdicts.specs.Answer.{Judged, Verified, Verifies}
+use Rattle.tpl_verdicts.specs.Streaming.{Streams}
 use Rattle.tpl_verdicts.specs.declared.style.Style.{Style}
 use Rattle.tpl_verify.specs.Serving.{Refuted, ShowsFailure, Unrefuted}
 use Rattle.tpl_verify.specs.Witness.{Searches}
@@ -62,7 +63,7 @@ pub record RefutesDocument {R W : Type 0} (claim : Option ℕ) (remaining : R �
 
 -- what `verify` does with one document, by certificates with at most so many splits, in this style
 pub record VerifiesDocument {R W : Type 0} (depth : ℕ) (style : Style) (remaining : R → Option (List ℕ)) (from_old from_new : Counting R) (contents : W → Option (List ℕ)) (to_old to_new : Counting W) (result : Exit) : Type 0 where
-  pub responds : Responds (Verifies depth style) remaining from_old from_new contents to_old to_new result
+  pub streams : Streams remaining from_old from_new contents to_old to_new depth style result
   pub reads : calls_of from_new ≤ calls_of from_old + (longest + 2)
   pub judged : (result ≡ Success) ⊎ (result ≡ Failure)
       → Judged remaining from_old from_new contents to_old to_new style result

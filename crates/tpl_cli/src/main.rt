@@ -241,7 +241,7 @@ fn refute<I: Read, O: Write>(
 }
 
 /// Answers each claim of the document that comes, by several threads where there are some.
-fn verify_one<R: Threads + Sync, I: Read, O: Write>(
+fn verify_one<R: Threads + Wait + Sync, I: Read, O: Write + Send>(
     rt: &HostRuntime,
     threads: &R,
     teller: Teller<'_>,
@@ -253,12 +253,13 @@ fn verify_one<R: Threads + Sync, I: Read, O: Write>(
     ensures { VerifiesDocument asked.limits.depth asked.style I.remaining from.old from.new
         O.contents to.old to.new result }
 {
-    let (progress, teller) = (ClaimProgress::new(rt), teller.of_search());
+    let progress = ClaimProgress::beside(rt, asked.style);
+    let teller = teller.of_search();
     verify_document(threads, rt.alloc(), asked, &progress, teller, from, to)
 }
 
 /// Answers each claim of the document that comes, or of the document on each line.
-fn verify<R: Threads + Sync, I: Read, O: Write>(
+fn verify<R: Threads + Wait + Sync, I: Read, O: Write + Send>(
     rt: &HostRuntime,
     threads: &R,
     teller: Teller<'_>,
@@ -298,7 +299,7 @@ fn trace<I: Read, O: Write>(
 
 /// Answers what comes as the line asks, and says on the standard error why the answer is what it is, where that is asked
 /// for.
-fn answer<R: Threads + Wait + Sync, I: Read, O: Write>(
+fn answer<R: Threads + Wait + Sync, I: Read, O: Write + Send>(
     rt: &HostRuntime,
     threads: &R,
     order: &Order,

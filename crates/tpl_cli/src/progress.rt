@@ -10,6 +10,7 @@ use tpl_graph::Graph;
 use tpl_machine::Core;
 use tpl_model::{Inputs, TaskId};
 use tpl_report::{Follow, Watcher};
+use tpl_verdicts::Style;
 use tpl_verify::{Attend, Verdict};
 
 /// How long it takes until the line is written again, in milliseconds.
@@ -93,6 +94,16 @@ impl<'a> ClaimProgress<'a> {
             rt,
             shows: rt.stderr().is_terminal(),
             judged: AtomicUsize::new(0),
+        }
+    }
+
+    /// The same; but where verdicts are written to a terminal as they come, nothing is told beside them.
+    pub(crate) fn beside(rt: &'a HostRuntime, style: Style) -> ClaimProgress<'a> {
+        let progress = ClaimProgress::new(rt);
+        let is_told = style == Style::Text && rt.stdout().is_terminal();
+        ClaimProgress {
+            shows: progress.shows && !is_told,
+            ..progress
         }
     }
 }
