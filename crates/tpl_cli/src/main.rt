@@ -38,7 +38,7 @@ mod usage;
 mod why;
 
 ghost use Rattle.std.specs.Prelude.{◌≡◌, ◌<◌, ◌≤◌, IfOk, IfSome, All};
-ghost use Rattle.tpl_cli.specs.Prelude.{AreThreads, Does, IsWithin, RefutesDocument, RunsDocument, ServesBoxes, TellsAs, TracesDocument, VerifiesAs, VerifiesDocument};
+ghost use Rattle.tpl_cli.specs.Prelude.{AreThreads, AuditsAsPage, Does, IsWithin, RefutesDocument, RunsDocument, ServesBoxes, TellsAs, TracesDocument, VerifiesAs, VerifiesDocument};
 ghost use Rattle.tpl_commands.specs.Prelude.{RequestsTokens};
 ghost use Rattle.tpl_each.specs.Prelude.{RespondsToEach};
 ghost use Rattle.tpl_graph.specs.Prelude.{Fits};
@@ -65,6 +65,7 @@ use tpl_journal::Counting;
 use tpl_model::Inputs;
 use tpl_reader::Document;
 use tpl_report::{Crew, Depth, Telling};
+use tpl_shown::audit_page;
 use tpl_trace::trace_document;
 use tpl_verdicts::{OneByOne, Verification, verify_document};
 use tpl_verify::{Limits, Search, refute_document};
@@ -297,6 +298,18 @@ fn trace<I: Read, O: Write>(
     trace_document(rt.alloc(), teller, from, to)
 }
 
+/// Writes the audit of the journal of the document that comes as a page.
+fn show_audit<I: Read, O: Write>(
+    rt: &HostRuntime,
+    teller: Teller<'_>,
+    from: &mut Counting<I>,
+    to: &mut Counting<O>,
+) -> Exit
+    ensures { AuditsAsPage I.remaining from.old from.new O.contents to.old to.new result }
+{
+    audit_page(rt.alloc(), teller, from, to)
+}
+
 /// Answers what comes as the line asks, and says on the standard error why the answer is what it is, where that is asked
 /// for.
 fn answer<R: Threads + Wait + Sync, I: Read, O: Write + Send>(
@@ -337,6 +350,7 @@ fn answer<R: Threads + Wait + Sync, I: Read, O: Write + Send>(
             verify(rt, threads, teller, command, jobs, is_each, from, to)
         }
         Line::Trace => trace(rt, teller, from, to),
+        Line::AuditPage => show_audit(rt, teller, from, to),
     }
 }
 

@@ -1,5 +1,6 @@
 //! What is added to what `clap` says of a mistake: how a document is given, how options are written, which values there are.
 
+use crate::options::is_set;
 use clap::ArgMatches;
 use std::alloc::{AllocError, Global};
 
@@ -91,15 +92,16 @@ pub(crate) fn with_tip(alloc: Global, text: String, words: &[&str]) -> Result<St
 }
 
 /// The options that have a word behind `--as`, by their subcommands: what the help calls the word, and which there are.
-const NAMED: [(&str, &str, &str); 2] = [
+const NAMED: [(&str, &str, &str); 3] = [
+    ("audit", "STYLE", "text, html"),
     ("draw", "LANGUAGE", "mermaid, dot"),
     ("verify", "STYLE", "text, json, junit, html"),
 ];
 
-/// What is said of a word behind `--as` that names nothing there.
+/// What is said of a word behind `--as` that names nothing there; empty, where it names something.
 fn unnamed(alloc: Global, subcommand: &str, word: &str) -> Result<String, AllocError> {
     for (owner, name, values) in NAMED {
-        if owner == subcommand {
+        if owner == subcommand && !values.split(", ").any(|value| value == word) {
             return format!(in alloc;
                 "error: invalid value '{word}' for '--as <{name}>'\n  [possible values: {values}]\n\nFor more information, try '--help'.\n"
             );
@@ -108,25 +110,28 @@ fn unnamed(alloc: Global, subcommand: &str, word: &str) -> Result<String, AllocE
     Ok(String::new(alloc))
 }
 
-/// Which of the options of the subcommand have no meaning, where none of them is `--as`.
-fn at_odds(subcommand: &str) -> &'static str {
+/// Which of the options of the subcommand have no meaning together.
+fn at_odds(subcommand: &str, options: &ArgMatches<'_>) -> &'static str {
     match subcommand {
         "analyse" => "the argument '--rows' cannot be used with '--slim'",
+        "audit" if is_set(options, "each") => {
+            "the argument '--as html' cannot be used with '--each'"
+        }
         _ => "the argument '--jobs <N>' is taken only with '--each'",
     }
 }
 
 /// What is said of words that `clap` takes and that mean nothing: a word behind `--as` names nothing, two forms of a
-/// certificate are asked for, or a number of threads is given where no document on each line is asked for.
+/// certificate are asked for, a page for the document on each line, or a number of threads is given where no document on
+/// each line is asked for.
 pub(crate) fn no_meaning(alloc: Global, given: &ArgMatches<'_>) -> Result<String, AllocError> {
     let Some((subcommand, options)) = given.subcommand() else {
         return String::from_str(alloc, "error: no command\n");
     };
-    match options.get_str("as") {
-        Some(word) => unnamed(alloc, subcommand, word),
-        None => {
-            let why = at_odds(subcommand);
-            format!(in alloc; "error: {why}\n\nFor more information, try '--help'.\n")
-        }
+    let unnamed = unnamed(alloc, subcommand, options.get_str("as").unwrap_or(""))?;
+    if !unnamed.is_empty() {
+        return Ok(unnamed);
     }
+    let why = at_odds(subcommand, options);
+    format!(in alloc; "error: {why}\n\nFor more information, try '--help'.\n")
 }

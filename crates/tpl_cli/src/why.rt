@@ -46,7 +46,7 @@ fn subject_of(line: &Line) -> Subject {
         Line::Serve(Ask::Check | Ask::Analyse(_) | Ask::AnalyseIn(_, _) | Ask::Certify(_, _)) => {
             Subject::Claims
         }
-        Line::Serve(Ask::Audit) | Line::Trace => Subject::Journal,
+        Line::Serve(Ask::Audit) | Line::Trace | Line::AuditPage => Subject::Journal,
         Line::Verify { .. } => Subject::Verdicts,
         Line::Serve(Ask::Draw(_)) | Line::Each(_, _) | Line::Run { .. } | Line::Refute { .. } => {
             Subject::Graph
