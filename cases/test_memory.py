@@ -86,11 +86,16 @@ def broken_off(text: str) -> list[tuple[str, int]]:
     return [("".join(lines[:count]) + "out of memory\n", 4) for count in range(len(lines) + 1)]
 
 
+def writes_as_it_comes(words: tuple[str, ...]) -> bool:
+    """With these words `verify` writes each claim's lines before the next verdict is found."""
+    return "--each" not in words and ("--as" not in words or words[words.index("--as") + 1] == "text")
+
+
 def allowed(case: Case, whole: tuple[str, int]) -> list[tuple[str, int]]:
     """How the program may answer a case whose answer is this, where an allocation is refused."""
     if case.command == "run":
         return [whole, NO_MEMORY, NO_THREAD]
-    if case.file == "verdicts" and case.name == "text":
+    if case.command == "verify" and writes_as_it_comes(case.words):
         return [whole, *broken_off(whole[0])]
     return [whole, NO_MEMORY]
 

@@ -151,10 +151,20 @@ def watched(threads: pathlib.Path, wanted: int) -> int:
     return most
 
 
+def with_writer(jobs: int) -> int:
+    """How many threads there are where so many search and verdicts are written as they come."""
+    return jobs + 1 if jobs > 1 else jobs
+
+
 @pytest.mark.parametrize("jobs", [1, 2, 5])
 def test_as_many_threads_search_as_are_asked_for(bare_program, jobs: int):
-    assert most_threads(bare_program, jobs, "--jobs", str(jobs)) == jobs
+    assert most_threads(bare_program, jobs, "--jobs", str(jobs), "--as", "json") == jobs
+
+
+@pytest.mark.parametrize("jobs", [1, 2, 5])
+def test_one_thread_more_writes_what_the_others_find(bare_program, jobs: int):
+    assert most_threads(bare_program, with_writer(jobs), "--jobs", str(jobs)) == with_writer(jobs)
 
 
 def test_a_thread_for_each_processor_searches_where_no_number_is_given(bare_program):
-    assert most_threads(bare_program, PROCESSORS) == PROCESSORS
+    assert most_threads(bare_program, with_writer(PROCESSORS)) == with_writer(PROCESSORS)
