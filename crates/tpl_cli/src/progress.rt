@@ -148,7 +148,7 @@ impl Follow for RunProgress<'_> {
         clear(self.rt);
     }
 
-    fn is_over(&self) {
+    fn stop(&self) {
         self.over.store(true, Ordering::Release);
     }
 }
