@@ -21,12 +21,13 @@ from harness import HERE, TOP, USAGE, Case, all_cases, slug
 HELP = {"--help", "-h", "help", "--version"}
 
 
-README, GALLERY, IDIOMS = ((TOP / page).read_text(encoding="utf-8") for page in ("README.md", "docs/GALLERY.md", "docs/IDIOMS.md"))
+OF_THE_TOP, OF_BUGS, OF_WORDS = "README.md", "docs/GALLERY.md", "docs/IDIOMS.md"
+README, GALLERY, IDIOMS = ((TOP / page).read_text(encoding="utf-8") for page in (OF_THE_TOP, OF_BUGS, OF_WORDS))
 # the last part of docs/GALLERY.md, which has no bug of its own
 MORE = "More bugs, each with a page"
 # the words that .NET developers search for first
-SEARCHED = """WaitAsync Channel SemaphoreSlim Parallel.ForEachAsync Interlocked BackgroundService StopAsync IAsyncEnumerable HttpClient
-Polly lock Timer TaskCompletionSource ConfigureAwait IAsyncDisposable Task.Yield""".split()
+SEARCHED = """WaitAsync Channel SemaphoreSlim Parallel.ForEachAsync Interlocked BackgroundService StopAsync IAsyncEnumerable
+HttpClient Polly lock Timer TaskCompletionSource ConfigureAwait IAsyncDisposable Task.Yield""".split()
 # command lines of README.md: in a text, and those that stand alone, without what is said of them
 IN_TEXT = re.compile(r"(?<!`)`((?:tar|cd|cmd|taskgraph-csharp) [^`]+)`")
 ALONE = re.compile(r"^    (\S[^#\n]*?) *(?:#.*)?$", re.MULTILINE)
