@@ -18,6 +18,7 @@ import os
 import pathlib
 import re
 import subprocess
+from collections.abc import Iterator
 from typing import NamedTuple
 
 from every_run import Truth
@@ -102,10 +103,20 @@ def sections(text: str) -> list[Section]:
 
 def is_asked(text: str) -> bool:
     """A part of a page has a block that the tests run."""
-    return any(
-        block.kind == "console" or (block.kind == "json" and (SAYS.search(block.below) or VERDICTS.search(block.below)))
-        for block in blocks(text)
-    )
+    return any(block.kind == "console" or says_what_is_answered(block) for block in blocks(text))
+
+
+def says_what_is_answered(block: Block) -> bool:
+    """Below the block, which has a document, stands what a command answers to it."""
+    return block.kind == "json" and bool(SAYS.search(block.below) or VERDICTS.search(block.below))
+
+
+def shown_documents(text: str) -> Iterator[dict]:
+    """The documents of a page: those of its json blocks of which an answer is told, and those that are handed to `verify`."""
+    for block in blocks(text):
+        if says_what_is_answered(block):
+            yield document(block.text)
+    yield from map(json.loads, HANDED.findall(text))
 
 
 def verdicts(program: Program, given: dict) -> list[str]:

@@ -138,6 +138,13 @@ def test_verdicts(program, snippet: str, said_of_all: str):
     assert pages.true_verdicts(given) == wanted
 
 
+@pytest.mark.parametrize("page", ["docs/RECIPES.md", "docs/FROM-CSHARP.md"])
+def test_each_document_is_asked(page: str):
+    found = [block for block in pages.blocks((TOP / page).read_text(encoding="utf-8")) if block.kind == "json"]
+    assert len(found) > 15
+    assert [block.text for block in found if not pages.says_what_is_answered(block)] == []
+
+
 @pytest.mark.parametrize("page, head", anchors())
 def test_anchor(page: pathlib.Path, head: str):
     assert head in {section.anchor for section in pages.sections(page.read_text(encoding="utf-8"))}
