@@ -27,7 +27,7 @@ unshown_answer input doc audit exit text spelled is unread answer =
 
 -- the answer to bytes that spell no document
 pub unread_answer : (input : List ℕ) (r : Result Answered AllocError) → IfOk r (λ it. NoDocument input it.answer.exit (string_bytes it.answer.text)) → IfOk r (λ it. ShowsAudit input it.answer.exit (string_bytes it.answer.text))
-unread_answer input (Ok it) none = inr (inr none, none.2.0)
+unread_answer input (Ok it) none = inr (inr none, none.2)
 unread_answer input (Err e) none = tt
 
 -- a yes or no answers a document

@@ -23,11 +23,15 @@ failure_data None = null
 failure_data (Some failure) =
     object (member (codes "claim") (number (unsigned failure.claim)) (member (codes "place") (number (unsigned failure.place)) no_members))
 
+-- a task that has not ended as is said of it, by the names of its end, its status and itself
+abbrev pub other_data : (said status task : List ℕ) → Data
+other_data said status task =
+    object (member (codes "said") (string said) (member (codes "status") (string status) (member (codes "task") (string task) no_members)))
+
 -- the first task that has not ended as is said of it; null, where each has
 abbrev pub ended_data : Names → Option OtherEnd → Data
 ended_data names None = null
-ended_data names (Some end) =
-    object (member (codes "said") (string (final_name end.said)) (member (codes "status") (string (status_name end.status)) (member (codes "task") (string (task_name names end.task)) no_members)))
+ended_data names (Some end) = other_data (final_name end.said) (status_name end.status) (task_name names end.task)
 
 -- what was found of a run: the claims in words, whether it is complete, how each task stands at the end, where a claim fails
 -- first, and which task has not ended as is said of it

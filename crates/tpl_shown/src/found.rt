@@ -4,8 +4,9 @@ ghost use Rattle.std.specs.Prelude.{◌≡◌, IfOk, IfSome, map, reverse, strin
 ghost use Rattle.serde_json.specs.View.{view};
 ghost use Rattle.tpl_audit.specs.Prelude.{AreTasksOf, IsVerdict, statuses};
 ghost use Rattle.tpl_model.specs.Prelude.{Run, is_task};
-ghost use Rattle.tpl_shown.specs.Prelude.{IsFound, IsFoundText, claims_data, ended_data, failure_data, refused_data, run_data, statuses_data};
+ghost use Rattle.tpl_shown.specs.Prelude.{IsFound, IsFoundText, claims_data, ended_data, failure_data, other_data, refused_data, run_data, statuses_data};
 
+use crate::naming::name_of;
 use serde_json::{Value, json};
 use std::alloc::{AllocError, Global};
 use tpl_audit::{Failure, OtherEnd, Verdict, statuses_after};
@@ -37,18 +38,23 @@ fn failure_value(alloc: Global, fails: Option<Failure>) -> Result<Value, AllocEr
     }
 }
 
+/// A task that has not ended as is said of it, by the names of its end, its status and itself.
+fn other_value(alloc: Global, said: &str, status: &str, task: &str) -> Result<Value, AllocError>
+    ensures { IfOk result (λ v. view v ≡ other_data said.now status.now task.now) }
+{
+    json!(in alloc; {"said": said, "status": status, "task": task})
+}
+
 /// The first task that has not ended as is said of it; null, where each has.
 fn ended_value(alloc: Global, graph: &Graph, other: Option<OtherEnd>) -> Result<Value, AllocError>
     requires { IfSome other (λ end. is_task graph.now.graph end.task.0) }
     ensures { IfOk result (λ v. view v ≡ ended_data graph.now.names other) }
 {
-    graph.valid_law();
     match other {
         None => Ok(Value::Null),
         Some(end) => {
             let (said, status) = (end.said.name(), end.status.name());
-            let task = graph.name(end.task);
-            json!(in alloc; {"said": said, "status": status, "task": task})
+            other_value(alloc, said, status, name_of(graph, end.task))
         }
     }
 }
@@ -155,5 +161,6 @@ pub(crate) fn found_text(
     ensures { let r = recorded.now in IfOk result (λ text. IsFoundText r.graph.now r.claims.now
         r.inputs.now r.events.now verdict (string_bytes text)) }
 {
-    found_value(alloc, recorded, verdict)?.to_string(alloc)
+    let text = found_value(alloc, recorded, verdict)?.to_string(alloc)?;
+    Ok(text)
 }

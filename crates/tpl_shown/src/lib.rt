@@ -11,7 +11,9 @@
 
 mod answering;
 mod found;
+mod naming;
 mod paging;
 
 pub use answering::{AuditPage, audit_page};
+pub use naming::name_of;
 pub use paging::document_page;
