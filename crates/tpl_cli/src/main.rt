@@ -28,6 +28,7 @@
 
 mod boxes;
 mod devices;
+mod first_line;
 mod line;
 mod number;
 mod options;
@@ -47,10 +48,11 @@ ghost use Rattle.tpl_report.specs.Prelude.{IsToldOf};
 
 use crate::boxes::run_boxes;
 use crate::devices::{Noting, say_unwritten, say_what_failed};
+use crate::first_line::FirstLine;
 use crate::line::{Line, LineFault, Tries, line_of};
 use crate::progress::{ClaimProgress, RunProgress};
 use crate::stack::take_stack;
-use crate::why::{Teller, asks_why, say_what_is_read};
+use crate::why::{Teller, asks_why, reads_each, say_one_line, say_what_is_read};
 use std::alloc::Global;
 use std::io::{BufWriter, ErrorKind, IsTerminal, Read, Write};
 use std::process::ExitCode;
@@ -360,15 +362,19 @@ fn perform<R: Threads + Wait + Sync>(rt: &HostRuntime, threads: &R, order: Order
     requires { IsWithin order.line }
 {
     say_what_is_read(rt);
-    let mut from = Counting::new(Noting::new(rt.stdin()));
+    let input = FirstLine::new(rt.stdin(), reads_each(&order.line));
+    let mut from = Counting::new(Noting::new(input));
     let Ok(out) = BufWriter::new(rt.alloc(), Noting::new(rt.stdout())) else {
         return put_out_of_memory(&mut Counting::new(rt.stdout()));
     };
     let mut to = Counting::new(out);
     let exit = answer(rt, threads, &order, &mut from, &mut to);
     let (out, _left) = to.into_inner().into_parts();
-    if exit == Exit::Device {
-        say_what_failed(rt, from.into_inner().error(), out.error());
+    let from = from.into_inner();
+    match exit {
+        Exit::Device => say_what_failed(rt, from.error(), out.error()),
+        Exit::Failure if from.inner().is_cut() => say_one_line(rt),
+        _ => {}
     }
     exit
 }

@@ -27,6 +27,10 @@ const NO_CLAIM: &str = "no claim was asked, so nothing is shown\n";
 /// What a command says of a document without a journal.
 const NO_JOURNAL: &str = "the document has no journal, so nothing was recorded\n";
 
+/// What is said where each line is to be a document, and the first one ends in the middle of one.
+const ONE_LINE: &str =
+    "taskgraph: --each reads a document from each line, and the first line ends in the middle of one; `jq -c . document.json` writes it on one line, and so does `python3 -c 'import json, sys; print(json.dumps(json.load(sys.stdin)))' < document.json`\n";
+
 /// What a command answers about. Where a document has nothing of it, the answer says nothing.
 #[derive(Clone, Copy, Debug, Drop, PartialEq, Eq)]
 enum Subject {
@@ -209,4 +213,18 @@ pub(crate) fn say_what_is_read(rt: &HostRuntime) {
     if rt.stdin().is_terminal() {
         let _ = eprint!(rt; "taskgraph: reading the document from the standard input\n");
     }
+}
+
+/// Whether the line asks for the document on each line.
+pub(crate) fn reads_each(line: &Line) -> bool {
+    match line {
+        Line::Each(_, _) => true,
+        Line::Verify { is_each, .. } => *is_each,
+        _ => false,
+    }
+}
+
+/// Says that a document stands on one line where each line is read, and how it gets there.
+pub(crate) fn say_one_line(rt: &HostRuntime) {
+    let _ = eprint!(rt; "{ONE_LINE}");
 }
