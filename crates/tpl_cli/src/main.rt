@@ -28,10 +28,12 @@
 
 mod boxes;
 mod devices;
+mod first_line;
 mod line;
 mod number;
 mod options;
 mod progress;
+mod seen;
 mod stack;
 mod tips;
 mod usage;
@@ -47,10 +49,12 @@ ghost use Rattle.tpl_report.specs.Prelude.{IsToldOf};
 
 use crate::boxes::run_boxes;
 use crate::devices::{Noting, say_unwritten, say_what_failed};
+use crate::first_line::FirstLine;
 use crate::line::{Line, LineFault, Tries, line_of};
 use crate::progress::{ClaimProgress, RunProgress};
+use crate::seen::Seen;
 use crate::stack::take_stack;
-use crate::why::{Teller, asks_why, say_what_is_read};
+use crate::why::{Teller, asks_why, reads_each, say_newer, say_one_line, say_what_is_read};
 use std::alloc::Global;
 use std::io::{BufWriter, ErrorKind, IsTerminal, Read, Write};
 use std::process::ExitCode;
@@ -82,11 +86,12 @@ fn words(rt: &HostRuntime) -> Result<Vec<String>, LineFault> {
     }
 }
 
-/// What is to be done, and whether the standard error is to say why the answer is what it is.
+/// What is to be done, whether the standard error is to say why the answer is what it is, and what was seen meanwhile.
 #[derive(Drop)]
 struct Order {
     line: Line,
     explains: bool,
+    seen: Seen,
 }
 
 /// What the command line says. Its texts call the program `taskgraph`, whatever file it is run from. Where the standard
@@ -99,7 +104,11 @@ fn given_order(rt: &HostRuntime) -> Result<Order, LineFault>
     let texts: Vec<&str> = iter::once("taskgraph").chain(given).collect(rt.alloc())?;
     let line = line_of(rt.alloc(), &texts)?;
     let explains = asks_why(&texts) || rt.stderr().is_terminal();
-    Ok(Order { line, explains })
+    Ok(Order {
+        line,
+        explains,
+        seen: Seen::new(),
+    })
 }
 
 /// Makes the run of a document, which is told so.
@@ -254,7 +263,7 @@ fn verify_one<R: Threads + Wait + Sync, I: Read, O: Write + Send>(
     ensures { VerifiesDocument asked.limits.depth asked.style I.remaining from.old from.new
         O.contents to.old to.new result }
 {
-    let progress = ClaimProgress::beside(rt, asked.style);
+    let progress = ClaimProgress::beside(rt, asked.style, teller.seen());
     let teller = teller.of_search();
     verify_document(threads, rt.alloc(), asked, &progress, teller, from, to)
 }
@@ -322,7 +331,7 @@ fn answer<R: Threads + Wait + Sync, I: Read, O: Write + Send>(
     requires { IsWithin order.now.line }
     ensures { Does order.now.line I.remaining from.old from.new O.contents to.old to.new result }
 {
-    let teller = Teller::new(rt, &order.line, order.explains);
+    let teller = Teller::new(rt, &order.line, order.explains, &order.seen);
     match order.line {
         Line::Serve(ask) => serve_watched(rt.alloc(), ask, teller.of_ask(&ask), from, to),
         Line::Each(ask, jobs) => {
@@ -354,21 +363,35 @@ fn answer<R: Threads + Wait + Sync, I: Read, O: Write + Send>(
     }
 }
 
+/// Says what helps where not each answer is yes: the first line of several ends in the middle of a document, or a claim may be
+/// proved in a newer version of it.
+fn say_what_helps(rt: &HostRuntime, order: &Order, is_cut: bool) {
+    if is_cut {
+        say_one_line(rt);
+    } else if order.explains && order.seen.may_be_proved() {
+        say_newer(rt);
+    }
+}
+
 /// Does what the command line says. What is written is kept together, and all of it is written out before the end is
 /// known. What a failed write left is not written later. Where reading or writing failed, standard error says how.
 fn perform<R: Threads + Wait + Sync>(rt: &HostRuntime, threads: &R, order: Order) -> Exit
     requires { IsWithin order.line }
 {
     say_what_is_read(rt);
-    let mut from = Counting::new(Noting::new(rt.stdin()));
+    let input = FirstLine::new(rt.stdin(), reads_each(&order.line));
+    let mut from = Counting::new(Noting::new(input));
     let Ok(out) = BufWriter::new(rt.alloc(), Noting::new(rt.stdout())) else {
         return put_out_of_memory(&mut Counting::new(rt.stdout()));
     };
     let mut to = Counting::new(out);
     let exit = answer(rt, threads, &order, &mut from, &mut to);
     let (out, _left) = to.into_inner().into_parts();
-    if exit == Exit::Device {
-        say_what_failed(rt, from.into_inner().error(), out.error());
+    let from = from.into_inner();
+    match exit {
+        Exit::Device => say_what_failed(rt, from.error(), out.error()),
+        Exit::Failure => say_what_helps(rt, &order, from.inner().is_cut()),
+        _ => {}
     }
     exit
 }

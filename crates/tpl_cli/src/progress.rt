@@ -1,5 +1,6 @@
 //! How far the work is, told on the standard error while it goes on, where that is a terminal.
 
+use crate::seen::Seen;
 use std::alloc::Global;
 use std::io::IsTerminal;
 use std::sync::atomic::{AtomicBool, AtomicUsize, Ordering};
@@ -85,6 +86,7 @@ pub(crate) struct ClaimProgress<'a> {
     rt: &'a HostRuntime,
     shows: bool,
     judged: AtomicUsize,
+    seen: Option<&'a Seen>,
 }
 
 impl<'a> ClaimProgress<'a> {
@@ -94,15 +96,18 @@ impl<'a> ClaimProgress<'a> {
             rt,
             shows: rt.stderr().is_terminal(),
             judged: AtomicUsize::new(0),
+            seen: None,
         }
     }
 
-    /// The same; but where verdicts are written to a terminal as they come, nothing is told beside them.
-    pub(crate) fn beside(rt: &'a HostRuntime, style: Style) -> ClaimProgress<'a> {
+    /// The same, but each verdict is seen; and where verdicts are written to a terminal as they come, nothing is told beside
+    /// them.
+    pub(crate) fn beside(rt: &'a HostRuntime, style: Style, seen: &'a Seen) -> ClaimProgress<'a> {
         let progress = ClaimProgress::new(rt);
         let is_told = style == Style::Text && rt.stdout().is_terminal();
         ClaimProgress {
             shows: progress.shows && !is_told,
+            seen: Some(seen),
             ..progress
         }
     }
@@ -120,6 +125,9 @@ fn said_of(verdict: &Verdict) -> Option<&'static str> {
 
 impl Attend for ClaimProgress<'_> {
     fn judged(&self, number: usize, verdict: &Verdict) {
+        if let Some(seen) = self.seen {
+            seen.judged(verdict);
+        }
         if self.shows {
             let judged = self.judged.fetch_add(1, Ordering::SeqCst).saturating_add(1);
             if let Some(said) = said_of(verdict) {
