@@ -4,7 +4,7 @@ ghost use Rattle.std.specs.Prelude.{◌≡◌, ◌⊎◌, ◌+◌, ◌≤◌, So
 ghost use Rattle.tpl_audit.specs.Prelude.{AreTasksOf};
 ghost use Rattle.tpl_commands.specs.Prelude.{IsAnswer, IsAuditOf, IsFindingOf, Responds, ended_of};
 ghost use Rattle.tpl_graph.specs.Prelude.{Fits};
-ghost use Rattle.tpl_journal.specs.Prelude.{IsJournal, calls_of};
+ghost use Rattle.tpl_journal.specs.Prelude.{IsJournal, IsJournalFault, calls_of};
 ghost use Rattle.tpl_reader.specs.Prelude.{Spells, behind_mark, doc_of, inputs_of, longest};
 ghost use Rattle.tpl_shown.specs.Prelude.{AuditShown, IsAuditPage, IsUnread, ShowsAudit};
 
@@ -76,6 +76,33 @@ fn unshown(
     Ok(Answered { answer, finding })
 }
 
+/// The answer to a document with these inputs, whose journal can't be read for this reason.
+fn answer_without(
+    alloc: Global,
+    bytes: &[u8],
+    document: Document,
+    inputs: Inputs,
+    fault: JournalFault,
+) -> Result<Answered, AllocError>
+    requires spelled { Spells bytes.now (doc_of document) }
+    requires claims { All (Fits document.graph.graph) document.claims.items }
+    requires inputs { inputs_of (doc_of document) ≡ Some inputs }
+    requires fault { IsJournalFault document.graph (doc_of document).journal fault }
+    ensures answer { IfOk result (λ it.
+        ShowsAudit bytes.now it.answer.exit (string_bytes it.answer.text)) }
+    ensures found { IfOk result (λ it. IfSome it.finding (IsFindingOf bytes.now)) }
+    ensures follows { IfOk result (λ it. IfSome it.finding (λ finding.
+        IsAnswer finding it.answer.exit (string_bytes it.answer.text))) }
+{
+    let _ = inputs;
+    match fault {
+        JournalFault::Memory => Err(AllocError),
+        JournalFault::Line(_) | JournalFault::Limit => {
+            unshown(alloc, bytes, document, Audit::NoJournal(fault))
+        }
+    }
+}
+
 /// The answer to a document, whose graph has these inputs.
 fn answer_with(
     alloc: Global,
@@ -99,8 +126,7 @@ fn answer_with(
             let finding = None;
             Ok(Answered { answer, finding })
         }
-        Err(JournalFault::Memory) => Err(AllocError),
-        Err(fault) => unshown(alloc, bytes, document, Audit::NoJournal(fault)),
+        Err(fault) => answer_without(alloc, bytes, document, inputs, fault),
     }
 }
 
