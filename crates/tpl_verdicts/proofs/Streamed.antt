@@ -1,8 +1,7 @@
 -- From what was told claim by claim to the answer that was written.
-use Rattle.std.proofs.Common.{Vec, Global, ◌≡◌, ◌∙◌, ℕ, ◌++◌, Option, List, length, codes, Result, Ok, Err, ap, inl, inr, refl, sym, subst}
+use Rattle.std.proofs.Common.{Vec, Global, ◌≡◌, ℕ, ◌++◌, Option, List, length, codes, Result, Ok, Err, ap, inl, inr, refl, sym, subst}
 use Rattle.std.specs.Prelude.{MatchResult, IfOk, string_bytes, ◌≤◌}
 use Rattle.std.specs.declared.alloc.AllocError.{AllocError}
-use Rattle.std.specs.List.{AllZip}
 use Rattle.tpl_journal.specs.declared.counting.Counting.{Counting}
 use Rattle.tpl_journal.specs.Writing.{StopsIn, Writes}
 use Rattle.tpl_journal.proofs.PartLemmas.{stopped, then_written}
@@ -15,14 +14,14 @@ use Rattle.tpl_commands.specs.declared.responding.Answered.{Answered}
 use Rattle.tpl_commands.specs.Responding.{Puts, Reads, Says}
 use Rattle.tpl_commands.proofs.Responses.{IsYesOrNo, says}
 use Rattle.tpl_commands.specs.Rules.{rules_of}
-use Rattle.tpl_series.specs.Told.{HasTold, IsStopped, StopsTelling, TellsAll}
+use Rattle.tpl_series.specs.Told.{IsStopped, TellsAll}
 use Rattle.tpl_series.specs.declared.stop.Stop.{Stop}
 use Rattle.tpl_series.specs.declared.stop.Stop.TheVariants as stop
 use Rattle.tpl_series.proofs.ToldLemmas.{stops_behind}
 use Rattle.tpl_verify.specs.declared.verdict.Verdict.{Verdict}
 use Rattle.tpl_verdicts.specs.declared.style.Style.{Style}
 use Rattle.tpl_verdicts.specs.declared.style.Style.TheVariants.{Text}
-use Rattle.tpl_verdicts.specs.Answer.{IsVerified, Judged, Verified, Verifies}
+use Rattle.tpl_verdicts.specs.Answer.{IsVerified, Verified, Verifies}
 use Rattle.tpl_verdicts.specs.Asked.{AreFirst}
 use Rattle.tpl_verdicts.specs.Lines.{sums_line}
 use Rattle.tpl_verdicts.specs.Streaming.{AnswersBytes, BreaksOff, IsStreamed, PutsStop, PutsSums, Streams}

@@ -26,9 +26,9 @@ pub(crate) struct Asked<'d> {
     pub(crate) searched: Searched,
 }
 
-impl Asked<'_> {
+impl<'d> Asked<'d> {
     /// The claim at this place with this verdict.
-    fn at<'a>(&'a self, place: usize, verdict: &'a Verdict) -> Judgement<'a>
+    fn at(&self, place: usize, verdict: &'d Verdict) -> Judgement<'d>
         requires { IsOneOf self.now place verdict.now }
         ensures right { IsRight result }
         ensures graph { result.graph.now ≡ self.now.graph.now }
@@ -70,6 +70,18 @@ impl Tell<Verdict> for Asked<'_> {
     ghost tells = { TellsFirst };
 
     fn text(&self, alloc: Global, place: usize, value: &Verdict) -> Result<String, AllocError> {
-        self.lines_at(alloc, place, value)
+        let Asked {
+            graph,
+            claims,
+            names,
+            searched,
+        } = *self;
+        let asked = Asked {
+            graph,
+            claims,
+            names,
+            searched,
+        };
+        asked.lines_at(alloc, place, value)
     }
 }

@@ -1,6 +1,5 @@
 use Rattle.std.proofs.Common.{ap, map, option_map, string_bytes}
 use Rattle.tpl_reader.specs.SeenDocument.{doc_of}
-use Rattle.tpl_verdicts.specs.Asked.{names_of}
 use Rattle.tpl_verdicts.proofs.AskedLemmas.{first_none}
 use Rattle.tpl_verdicts.proofs.Streamed.{streamed}
 use Rattle.tpl_verdicts.proofs.streaming.stream.Goals as goal

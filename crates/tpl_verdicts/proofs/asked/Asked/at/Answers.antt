@@ -1,7 +1,6 @@
 use Rattle.std.proofs.Common.{ap, refl}
 use Rattle.std.proofs.lemmas.Option.{slice_get_read}
 use Rattle.tpl_graph.specs.Fits.{Fits}
-use Rattle.tpl_verdicts.specs.Told.{Told}
 use Rattle.tpl_verdicts.proofs.EntryLemmas.{all_at}
 use Rattle.tpl_verdicts.proofs.asked.Asked.at.Goals as goal
 

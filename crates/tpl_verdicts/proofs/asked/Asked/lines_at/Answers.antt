@@ -1,8 +1,8 @@
-use Rattle.std.proofs.Common.{◌≡◌, ◌∙◌, ◌+◌, ◌++◌, ◌∷◌, [], List, ℕ, length, ap, subst, sym, string_bytes}
+use Rattle.std.proofs.Common.{◌≡◌, ◌+◌, ◌++◌, ◌∷◌, [], List, ℕ, length, subst, sym}
 use Rattle.std.proofs.lemmas.Result.{IfOk-weaker}
 use Rattle.tpl_draft.specs.Named.{Named}
-use Rattle.tpl_verdicts.specs.Asked.{TellsFirst, names_of, told_there}
-use Rattle.tpl_verdicts.specs.Lines.{IsEntry, entry_text}
+use Rattle.tpl_verdicts.specs.Asked.{TellsFirst}
+use Rattle.tpl_verdicts.specs.Lines.{IsEntry}
 use Rattle.tpl_verdicts.specs.Told.{Told, told_of}
 use Rattle.tpl_verdicts.proofs.AskedLemmas.{text_next}
 use Rattle.tpl_verdicts.proofs.asked.Asked.lines_at.Goals as goal
