@@ -1,5 +1,5 @@
 -- The line that words mean: one at most, and within its limits.
-use Rattle.std.proofs.Common.{◌≡◌, ◌∙◌, ◌⊎◌, ◌+◌, ◌==◌, ℕ, Bool, inl, inr, if◌then◌else◌, List, Option, Some, None, codes, sym, ap, ap₂, refl, arith, slice_index}
+use Rattle.std.proofs.Common.{◌≡◌, ◌∙◌, ◌⊎◌, ◌+◌, ◌==◌, ℕ, Bool, inl, inr, if◌then◌else◌, List, Option, Some, None, option_map, codes, sym, ap, ap₂, refl, arith, slice_index}
 use Rattle.clap.specs.Words.{Row, Text}
 use Rattle.tpl_analyser.specs.declared.form.Form.{Form}
 use Rattle.tpl_analyser.specs.declared.form.Form.TheVariants.{Full, Slim, Rows}
@@ -120,6 +120,14 @@ same_line word rows AuditPage (Serve Audit) m n = absurd (text_or_html rows n.0.
 same_line word rows (Each Audit j) AuditPage m n = absurd (n.2.0 m.1.0)
 same_line word rows AuditPage (Each Audit j) m n = absurd (m.2.0 n.1.0)
 same_line word rows a b m n = let e = sym (means_kind word rows a m) ∙ means_kind word rows b n in absurd (omega arith)
+
+-- what a subcommand gives twice, as a pair
+pub entered : {S A B : Type 0} (f : S → A) (g : S → B) (o : Option S) (a : A) (b : B) → Some a ≡ option_map f o → Some b ≡ option_map (λ (p : A × B). p.1) (option_map {U = A × B} (λ s. (f s, g s)) o) → option_map {U = A × B} (λ s. (f s, g s)) o ≡ Some (a, b)
+entered f g None a b first second = absurd cc
+entered {A = A} {B = B} f g (Some s) a b first second =
+    let same : f s ≡ a = cc in
+    let other : g s ≡ b = cc in
+    let pair : A → B → Option (A × B) = λ x y. Some (x, y) in ap₂ pair same other
 
 pub one_line : (o : Option (Text × List Row)) (a b : Line) → IsLineOf o a → IsLineOf o b → a ≡ b
 one_line None a b m n = absurd m

@@ -11,3 +11,8 @@ returns-in_ok-search_asked-in-analyse c =
     let ask = c.in_ok-search_asked-in-analyse.field-0 in
     let named : c.args.word.now ≡ codes "analyse" = cc in
     c.served-in-analyse.ensures c.args.word.now (subst (λ (w : Text). Asks w (rows_of (found_of c.args.given.now)) ask) (sym named) c.in_ok-search_asked-in-analyse.ensures)
+
+pub returns-in_ok-named_in-in-draw : goal.returns-in_ok-named_in-in-draw
+returns-in_ok-named_in-in-draw c =
+    let named : c.args.word.now ≡ codes "draw" = cc in
+    c.served-in-draw.ensures c.args.word.now (named, c.in_ok-named_in-in-draw.ensures)
