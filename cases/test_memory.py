@@ -101,7 +101,11 @@ def allowed(case: Case, whole: tuple[str, int]) -> list[tuple[str, int]]:
 
 
 def test_answers_that_break_off():
-    text = "claim 1 holds: x\nclaim 2 fails: y\n  w1 begin A\n  claim 2 fails here\nclaims 2, holds 1, fails 1, empty 0, unknown 0\n"
+    text = (
+        "claim 1 holds: x\n"
+        "claim 2 fails: y\n  w1 begin A\n  claim 2 fails here\n"
+        "claims 2, holds 1, fails 1, empty 0, unknown 0\n"
+    )
     assert broken_off(text) == [
         ("out of memory\n", 4),
         ("claim 1 holds: x\nout of memory\n", 4),
