@@ -10,10 +10,10 @@ def test_cost(bare_program, dear):
 
 
 def test_each_command_has_a_stack():
-    """docs/OUTPUT.md names one for each command, at most 1.8 MB."""
+    """docs/OUTPUT.md names one for each command, at most 2.1 MB."""
     stacks = hostile.needed_stacks()
     assert {stack[0] for stack in stacks} == set(hostile.COMMANDS)
-    assert max(stacks.values()) <= 1800
+    assert max(stacks.values()) <= 2100
 
 
 @pytest.mark.parametrize("words, size", hostile.needed_stacks().items(), ids=str)
