@@ -4,7 +4,7 @@ use Rattle.tpl_model.specs.declared.finals.Final.TheVariants.{RanToCompletion, C
 use Rattle.tpl_model.specs.Graph.{TaskGraph, is_task}
 use Rattle.tpl_model.specs.declared.ids.TaskId.{TaskId}
 use Rattle.tpl_model.specs.declared.claim.Property.{Property}
-use Rattle.tpl_model.specs.Certificate.{Row, Tree, SplitInput, SplitEnd, Leaf, Assumed, with_input, with_end, AcceptsTree}
+use Rattle.tpl_model.specs.Certificate.{PlainRow, Tree, SplitInput, SplitEnd, Leaf, Assumed, with_input, with_end, AcceptsTree}
 use Rattle.tpl_trees.specs.Heights.{height, HasShortChains}
 use Rattle.tpl_analyser.specs.declared.form.Form.{Form}
 use Rattle.tpl_analyser.specs.Found.{IsFound}
@@ -19,12 +19,12 @@ if_found P Q f (Ok None) h = tt
 if_found P Q f (Ok (Some t)) h = f t h
 if_found P Q f (Err e) h = tt
 
-pub leaf_found : (g : TaskGraph) (p : Property TaskId) (form : Form) (l : Assumed) (rows others : List Row) (t : Tree) → t ≡ Leaf others → rows ≡ others → AcceptsTree g p l (Leaf rows) → HasShortChains t → AreOfForm form p rows → IsFound g p form l 0 t
+pub leaf_found : (g : TaskGraph) (p : Property TaskId) (form : Form) (l : Assumed) (rows others : List PlainRow) (t : Tree) → t ≡ Leaf others → rows ≡ others → AcceptsTree g p l (Leaf rows) → HasShortChains t → AreOfForm form p rows → IsFound g p form l 0 t
 leaf_found g p form l rows others t e same a short of_form = record {
-  accepted = subst (λ (z : Tree). AcceptsTree g p l z) (sym e) (subst (λ (rs : List Row). AcceptsTree g p l (Leaf rs)) same a);
+  accepted = subst (λ (z : Tree). AcceptsTree g p l z) (sym e) (subst (λ (rs : List PlainRow). AcceptsTree g p l (Leaf rs)) same a);
   splits = subst (λ (z : Tree). height z ≤ 0) (sym e) (omega arith);
   chains = short;
-  of_form = subst (λ (z : Tree). IsOfForm form p z) (sym e) (subst (λ (rs : List Row). IsOfForm form p (Leaf rs)) same of_form);
+  of_form = subst (λ (z : Tree). IsOfForm form p z) (sym e) (subst (λ (rs : List PlainRow). IsOfForm form p (Leaf rs)) same of_form);
 }
 
 -- what a branch assumes, as an equation

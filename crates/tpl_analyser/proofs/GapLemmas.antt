@@ -7,11 +7,9 @@ use Rattle.std.proofs.Math.Seq.{drop-cons}
 use Rattle.tpl_model.specs.Graph.{TaskGraph}
 use Rattle.tpl_model.specs.Claims.{Claim}
 use Rattle.tpl_model.specs.Certificate.{Tree, AcceptsTree, Accepts, assumed_for}
-use Rattle.tpl_model.specs.WiderRules.{WideTree, as_wide_tree}
 use Rattle.tpl_model.specs.declared.rule_set.RuleSet.TheVariants.{Narrow}
 use Rattle.tpl_trees.proofs.WithinLimits.{same_height}
 use Rattle.tpl_trees.specs.Heights.{height, IsWithinLimits}
-use Rattle.tpl_trees.specs.WideHeights.{wide_height}
 use Rattle.tpl_analyser.specs.declared.form.Form.{Form}
 use Rattle.tpl_analyser.specs.Found.{IsFound}
 use Rattle.tpl_analyser.specs.Gaps.{IsFirstWithout}
@@ -57,7 +55,7 @@ module _ (g : TaskGraph) (claims : List Claim) (form : Form) (depth i : ℕ) (tr
     at = let short : i ≤ length claims = omega arith in ap (λ n. n + 1) (sym (length-take-le i claims short));
     trees = map as_wide_tree trees;
     accepted = (trees, refl, so_far.accepted);
-    splits = All-map (λ (t : WideTree). wide_height t ≤ depth) as_wide_tree trees (λ k t lt. subst (λ n. n ≤ depth) (sym (same_height (get_or trees k t))) (so_far.splits k t lt));
+    splits = All-map (λ (t : Tree). height t ≤ depth) as_wide_tree trees (λ k t lt. subst (λ n. n ≤ depth) (sym (same_height (get_or trees k t))) (so_far.splits k t lt));
   }
 
 pub all_found : (g : TaskGraph) (claims : List Claim) (form : Form) (depth i : ℕ) (trees : List Tree) → length claims ≤ i → FoundSoFar g claims form depth i trees → Accepts g claims trees

@@ -7,22 +7,23 @@ use Rattle.std.proofs.Math.Seq.{drop-cons}
 use Rattle.tpl_model.specs.Graph.{TaskGraph}
 use Rattle.tpl_model.specs.Claims.{Claim}
 use Rattle.tpl_model.specs.declared.rule_set.RuleSet.TheVariants.{Wide}
-use Rattle.tpl_model.specs.WiderRules.{WideTree, widely_assumed}
+use Rattle.tpl_model.specs.Certificate.{Tree}
+use Rattle.tpl_model.specs.WiderRules.{widely_assumed}
 use Rattle.tpl_laws.specs.WideTrees.{AcceptsWideTree, WidelyAccepts}
-use Rattle.tpl_trees.specs.WideHeights.{wide_height, IsWithinWideLimits}
+use Rattle.tpl_trees.specs.Heights.{height, IsWithinLimits}
 use Rattle.tpl_analyser.specs.declared.form.Form.{Form}
 use Rattle.tpl_analyser.specs.WideFound.{IsWidelyFound}
 use Rattle.tpl_analyser.specs.Gaps.{IsFirstWithout}
 use Rattle.tpl_analyser.specs.Slim.{HasLeavesOf}
 
 -- trees for the first i claims
-pub record WidelySoFar (g : TaskGraph) (claims : List Claim) (form : Form) (depth i : ℕ) (trees : List WideTree) : Type 0 where
+pub record WidelySoFar (g : TaskGraph) (claims : List Claim) (form : Form) (depth i : ℕ) (trees : List Tree) : Type 0 where
   pub accepted : WidelyAccepts g (take i claims) trees
-  pub splits : All (λ tree. wide_height tree ≤ depth) trees
-  pub limits : All IsWithinWideLimits trees
+  pub splits : All (λ tree. height tree ≤ depth) trees
+  pub limits : All IsWithinLimits trees
   pub of_form : All (HasLeavesOf form) trees
 
-accepts_more : (g : TaskGraph) (claims : List Claim) (trees : List WideTree) (claim : Claim) (tree : WideTree) → WidelyAccepts g claims trees → AcceptsWideTree g claim.body (widely_assumed g claim) tree → WidelyAccepts g (claims ++ claim ∷ []) (trees ++ tree ∷ [])
+accepts_more : (g : TaskGraph) (claims : List Claim) (trees : List Tree) (claim : Claim) (tree : Tree) → WidelyAccepts g claims trees → AcceptsWideTree g claim.body (widely_assumed g claim) tree → WidelyAccepts g (claims ++ claim ∷ []) (trees ++ tree ∷ [])
 accepts_more g [] [] claim tree a h = (h, tt)
 accepts_more g [] (t ∷ trees) claim tree a h = absurd a
 accepts_more g (c ∷ claims) [] claim tree a h = absurd a
@@ -31,17 +32,17 @@ accepts_more g (c ∷ claims) (t ∷ trees) claim tree a h = (a.0, accepts_more 
 pub none_widely : (g : TaskGraph) (claims : List Claim) (form : Form) (depth : ℕ) → WidelySoFar g claims form depth 0 []
 none_widely g claims form depth = record {
   accepted = tt;
-  splits = All-nil (λ (tree : WideTree). wide_height tree ≤ depth);
-  limits = All-nil IsWithinWideLimits;
+  splits = All-nil (λ (tree : Tree). height tree ≤ depth);
+  limits = All-nil IsWithinLimits;
   of_form = All-nil (HasLeavesOf form);
 }
 
-module _ (g : TaskGraph) (claims : List Claim) (form : Form) (depth i : ℕ) (trees : List WideTree) (d : Claim) (lt : i < length claims) (so_far : WidelySoFar g claims form depth i trees) where
-  pub one_more_widely : (tree : WideTree) → depth ≤ 6 → IsWidelyFound g (slice_index_or claims i d).body form (widely_assumed g (slice_index_or claims i d)) depth tree → WidelySoFar g claims form depth (i + 1) (trees ++ tree ∷ [])
+module _ (g : TaskGraph) (claims : List Claim) (form : Form) (depth i : ℕ) (trees : List Tree) (d : Claim) (lt : i < length claims) (so_far : WidelySoFar g claims form depth i trees) where
+  pub one_more_widely : (tree : Tree) → depth ≤ 6 → IsWidelyFound g (slice_index_or claims i d).body form (widely_assumed g (slice_index_or claims i d)) depth tree → WidelySoFar g claims form depth (i + 1) (trees ++ tree ∷ [])
   one_more_widely tree le found = record {
     accepted = subst (λ (cs : List Claim). WidelyAccepts g cs (trees ++ tree ∷ [])) (sym (take_more claims i d lt)) (accepts_more g (take i claims) trees (slice_index_or claims i d) tree so_far.accepted found.accepted);
-    splits = All-push (λ (t : WideTree). wide_height t ≤ depth) trees tree so_far.splits found.splits;
-    limits = All-push IsWithinWideLimits trees tree so_far.limits (omega arith, found.chains);
+    splits = All-push (λ (t : Tree). height t ≤ depth) trees tree so_far.splits found.splits;
+    limits = All-push IsWithinLimits trees tree so_far.limits (omega arith, found.chains);
     of_form = All-push (HasLeavesOf form) trees tree so_far.of_form found.of_form;
   }
 
@@ -57,5 +58,5 @@ module _ (g : TaskGraph) (claims : List Claim) (form : Form) (depth i : ℕ) (tr
     splits = so_far.splits;
   }
 
-pub all_widely_found : (g : TaskGraph) (claims : List Claim) (form : Form) (depth i : ℕ) (trees : List WideTree) → length claims ≤ i → WidelySoFar g claims form depth i trees → WidelyAccepts g claims trees
+pub all_widely_found : (g : TaskGraph) (claims : List Claim) (form : Form) (depth i : ℕ) (trees : List Tree) → length claims ≤ i → WidelySoFar g claims form depth i trees → WidelyAccepts g claims trees
 all_widely_found g claims form depth i trees le so_far = subst (λ (cs : List Claim). WidelyAccepts g cs trees) (take_all i claims le) so_far.accepted

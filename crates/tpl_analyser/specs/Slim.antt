@@ -7,8 +7,7 @@ use Rattle.tpl_model.specs.declared.ids.TaskId.{TaskId}
 use Rattle.tpl_model.specs.declared.claim.Property.{Property}
 use Rattle.tpl_model.specs.declared.claim.Property.TheVariants.{After}
 use Rattle.tpl_model.specs.Claims.{Claim}
-use Rattle.tpl_model.specs.Certificate.{Row, Tree, SplitInput, SplitEnd, Leaf}
-use Rattle.tpl_model.specs.WiderRules.{WideTree, OnInput, OnEnd, OnWinner, WideLeaf, LeastLeaf, as_wide_tree}
+use Rattle.tpl_model.specs.Certificate.{PlainRow, Tree, SplitInput, SplitEnd, Leaf, OnInput, OnEnd, OnWinner, RowsLeaf, LeastLeaf}
 use Rattle.tpl_model.specs.declared.rule_set.RuleSet.{RuleSet}
 use Rattle.tpl_model.specs.declared.rule_set.RuleSet.TheVariants.{Narrow, Wide}
 use Rattle.tpl_analyser.specs.Plans.{HasNoRows}
@@ -21,12 +20,12 @@ IsUsed (After a b) x = x ≡ a.0
 IsUsed p x = ⊥
 
 -- `before` and `past` have no task but those that the proof needs
-pub record IsSlimRow (p : Property TaskId) (r : Row) : Type 0 where
+pub record IsSlimRow (p : Property TaskId) (r : PlainRow) : Type 0 where
   pub before : (x : ℕ) → mem x r.before ≡ true → IsUsed p x
   pub past : (x : ℕ) → mem x r.past ≡ true → IsUsed p x
 
 -- rows of this form for the property
-abbrev pub AreOfForm : Form → Property TaskId → List Row → Type 0
+abbrev pub AreOfForm : Form → Property TaskId → List PlainRow → Type 0
 AreOfForm Full p rows = Unit {0}
 AreOfForm Slim p rows = All (IsSlimRow p) rows
 AreOfForm Rows p rows = Unit {0}
@@ -45,19 +44,19 @@ IsCertificateOf form [] (tree ∷ trees) = ⊥
 IsCertificateOf form (claim ∷ claims) [] = ⊥
 
 -- each leaf has rows
-abbrev pub HasAllRows : WideTree → Type 0
+abbrev pub HasAllRows : Tree → Type 0
 HasAllRows (OnInput i on_true on_false) = HasAllRows on_true × HasAllRows on_false
 HasAllRows (OnEnd t ran canceled faulted) = HasAllRows ran × HasAllRows canceled × HasAllRows faulted
 HasAllRows (OnWinner n x on_yes on_no) = HasAllRows on_yes × HasAllRows on_no
-HasAllRows (WideLeaf rows) = ⊤
+HasAllRows (RowsLeaf rows) = ⊤
 HasAllRows LeastLeaf = ⊥
 
 -- by the wide rules leaves leave their rows out, but where they are asked for
-abbrev pub HasLeavesOf : Form → WideTree → Type 0
+abbrev pub HasLeavesOf : Form → Tree → Type 0
 HasLeavesOf Rows tree = HasAllRows tree
 HasLeavesOf form tree = HasNoRows tree
 
 -- the trees of a certificate by the rules are of this form for the claims
-abbrev pub IsOfFormBy : RuleSet → Form → List Claim → List WideTree → Type 0
+abbrev pub IsOfFormBy : RuleSet → Form → List Claim → List Tree → Type 0
 IsOfFormBy Narrow form claims trees = (plain : List Tree) × (trees ≡ map as_wide_tree plain) × IsCertificateOf form claims plain
 IsOfFormBy Wide form claims trees = All (HasLeavesOf form) trees

@@ -3,16 +3,17 @@ use Rattle.std.specs.Prelude.{ℕ, ◌≤◌}
 use Rattle.tpl_model.specs.Graph.{TaskGraph}
 use Rattle.tpl_model.specs.declared.ids.TaskId.{TaskId}
 use Rattle.tpl_model.specs.declared.claim.Property.{Property}
-use Rattle.tpl_model.specs.WiderRules.{WideTree, WideAssumed}
+use Rattle.tpl_model.specs.Certificate.{Tree}
+use Rattle.tpl_model.specs.WiderRules.{WideAssumed}
 use Rattle.tpl_laws.specs.WideTrees.{AcceptsWideTree}
-use Rattle.tpl_trees.specs.WideHeights.{wide_height, HasShortWideChains}
+use Rattle.tpl_trees.specs.Heights.{height, HasShortChains}
 use Rattle.tpl_analyser.specs.declared.form.Form.{Form}
 use Rattle.tpl_analyser.specs.Slim.{HasLeavesOf}
 
 -- the tree is accepted for the property under what is assumed, has at most n splits on each path, no chain past the limit,
 -- and leaves of this form
-pub record IsWidelyFound (g : TaskGraph) (p : Property TaskId) (form : Form) (l : WideAssumed) (n : ℕ) (tree : WideTree) : Type 0 where
+pub record IsWidelyFound (g : TaskGraph) (p : Property TaskId) (form : Form) (l : WideAssumed) (n : ℕ) (tree : Tree) : Type 0 where
   pub accepted : AcceptsWideTree g p l tree
-  pub splits : wide_height tree ≤ n
-  pub chains : HasShortWideChains tree
+  pub splits : height tree ≤ n
+  pub chains : HasShortChains tree
   pub of_form : HasLeavesOf form tree

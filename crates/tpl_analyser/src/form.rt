@@ -6,7 +6,7 @@ ghost use Rattle.tpl_model.specs.Prelude.{mem};
 
 use std::alloc::{AllocError, Global};
 use tpl_model::{MOST_TASKS, Property, TaskSet};
-use tpl_trees::Row;
+use tpl_trees::PlainRow;
 
 /// How much the rows of a certificate say in `before` and `past`. By the wide rules a leaf may leave its rows out, and does
 /// so but where they are asked for.
@@ -25,8 +25,8 @@ pub(crate) fn in_form(
     alloc: Global,
     form: Form,
     property: Property,
-    rows: Vec<Row>,
-) -> Result<Vec<Row>, AllocError>
+    rows: Vec<PlainRow>,
+) -> Result<Vec<PlainRow>, AllocError>
     ensures { IfOk result (λ given. AreOfForm form property given.items) }
 {
     match form {
@@ -36,7 +36,7 @@ pub(crate) fn in_form(
 }
 
 /// The rows with what the proof of the property uses.
-fn slim(alloc: Global, property: Property, rows: &[Row]) -> Result<Vec<Row>, AllocError>
+fn slim(alloc: Global, property: Property, rows: &[PlainRow]) -> Result<Vec<PlainRow>, AllocError>
     ensures { IfOk result (λ slim. All (IsSlimRow property) slim.items) }
 {
     let used = used(property);
@@ -48,7 +48,7 @@ fn slim(alloc: Global, property: Property, rows: &[Row]) -> Result<Vec<Row>, All
 }
 
 /// The row with only these tasks left in `before` and `past`.
-fn with_used(alloc: Global, row: &Row, used: &TaskSet) -> Result<Row, AllocError>
+fn with_used(alloc: Global, row: &PlainRow, used: &TaskSet) -> Result<PlainRow, AllocError>
     ensures before { IfOk result (λ slim. (x : ℕ)
         → mem x slim.before ≡ (mem x row.now.before && mem x used.now)) }
     ensures past { IfOk result (λ slim. (x : ℕ)
@@ -57,7 +57,7 @@ fn with_used(alloc: Global, row: &Row, used: &TaskSet) -> Result<Row, AllocError
     let chain = row.chain().to_vec(alloc)?;
     let before = row.before().intersection(used);
     let past = row.past().intersection(used);
-    Ok(Row::new(row.ends(), row.runs(), before, past, chain))
+    Ok(PlainRow::new(row.ends(), row.runs(), before, past, chain))
 }
 
 /// The tasks that the proof of the property needs in `before` and `past`.

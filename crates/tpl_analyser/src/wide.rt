@@ -9,7 +9,7 @@ ghost use Rattle.tpl_leaf.specs.Prelude.{AreLinks, wide_assumed};
 ghost use Rattle.tpl_model.specs.Prelude.{widely_assumed};
 ghost use Rattle.tpl_model.specs.declared.rule_set.RuleSet.TheVariants.{Wide};
 ghost use Rattle.tpl_outline.specs.Prelude.{IsStageOf};
-ghost use Rattle.tpl_trees.specs.Prelude.{wide_height};
+ghost use Rattle.tpl_trees.specs.Prelude.{height};
 ghost use Rattle.tpl_wide.specs.Prelude.{IsCheck, graph_in};
 
 use crate::branch::Branch;
@@ -28,7 +28,7 @@ use std::alloc::{AllocError, Global};
 use tpl_checker::{Assumptions, Below, assumed_for};
 use tpl_graph::{Claim, Graph};
 use tpl_model::{MOST_SPLITS, RuleSet};
-use tpl_trees::{WideCertificate, WideTree, is_within_wide_limits};
+use tpl_trees::{Certificate, Tree, is_within_limits};
 use tpl_wide::{Check, accepts_tree};
 
 /// Searches for a certificate of the claims as [`crate::analyse_within`] does, by the rules that know of tokens and of
@@ -40,11 +40,11 @@ pub fn analyse_widely<W: Watch>(
     depth: u8,
     form: Form,
     budget: &mut Budget<W>,
-) -> Result<WideCertificate, Gap>
+) -> Result<Certificate, Gap>
     requires claims { All (Fits graph.now.graph) claims.now }
     requires depth { depth ≤ MOST_SPLITS }
     ensures accepted { IfOk result (λ c. WidelyAccepts graph.now.graph claims.now c) }
-    ensures splits { IfOk result (All (λ tree. wide_height tree ≤ depth)) }
+    ensures splits { IfOk result (All (λ tree. height tree ≤ depth)) }
     ensures form { IfOk result (All (HasLeavesOf form)) }
     ensures gap { IfErr result (IsGap Wide graph.now.graph claims.now depth) }
 {
@@ -63,7 +63,7 @@ fn certificate_for<W: Watch>(
     depth: u8,
     form: Form,
     budget: &mut Budget<W>,
-) -> Result<WideCertificate, Gap>
+) -> Result<Certificate, Gap>
     requires below { AreBelow graph.now.graph below.now }
     requires stages { All (IsStageOf graph.now.graph) made.now.stages.items }
     requires splits { All (IsSplitOf graph.now.graph) made.now.splits.items }
@@ -71,7 +71,7 @@ fn certificate_for<W: Watch>(
     requires claims { All (Fits graph.now.graph) claims.now }
     requires depth { depth ≤ MOST_SPLITS }
     ensures accepted { IfOk result (λ c. WidelyAccepts graph.now.graph claims.now c) }
-    ensures splits { IfOk result (All (λ tree. wide_height tree ≤ depth)) }
+    ensures splits { IfOk result (All (λ tree. height tree ≤ depth)) }
     ensures form { IfOk result (All (HasLeavesOf form)) }
     ensures gap { IfErr result (IsGap Wide graph.now.graph claims.now depth) }
 {
@@ -83,7 +83,7 @@ fn certificate_for<W: Watch>(
             None => return Err(Gap::NotFound { claim: at + 1 }),
         }
     }
-    Ok(WideCertificate::new(trees))
+    Ok(Certificate::new(trees))
 }
 
 /// A tree for one claim.
@@ -96,7 +96,7 @@ fn tree_for<W: Watch>(
     form: Form,
     depth: u8,
     budget: &mut Budget<W>,
-) -> Result<Option<WideTree>, AllocError>
+) -> Result<Option<Tree>, AllocError>
     requires claim { Fits graph.now.graph claim.now }
     requires below { AreBelow graph.now.graph below.now }
     requires stages { All (IsStageOf graph.now.graph) made.now.stages.items }
@@ -140,7 +140,7 @@ fn plan_for<W: Watch>(
     root: &Branch,
     depth: u8,
     budget: &mut Budget<W>,
-) -> Result<Option<WideTree>, AllocError>
+) -> Result<Option<Tree>, AllocError>
     requires { IsReady question }
     ensures { IsPlanIfAny question.entry.graph.now.graph depth result }
 {
@@ -165,8 +165,8 @@ fn tested(
     assumed: &Assumptions,
     form: Form,
     depth: u8,
-    plan: WideTree,
-) -> Result<Option<WideTree>, AllocError>
+    plan: Tree,
+) -> Result<Option<Tree>, AllocError>
     requires check { IsCheck check.now }
     requires plan { IsPlan (graph_in check.now) depth plan }
     requires depth { depth ≤ MOST_SPLITS }
@@ -174,7 +174,7 @@ fn tested(
         check.now.property form (wide_assumed assumed.now []) depth)) }
 {
     let tree = in_form(alloc, check, assumed, form, plan)?;
-    if accepts_tree(alloc, check, assumed, &tree)? && is_within_wide_limits(&tree) {
+    if accepts_tree(alloc, check, assumed, &tree)? && is_within_limits(&tree) {
         Ok(Some(tree))
     } else {
         Ok(None)

@@ -9,7 +9,7 @@ use Rattle.tpl_model.proofs.SetLists.{mem_within, sets_lem, mem-passing_from, pa
 use Rattle.tpl_model.proofs.Truths.{same_tests}
 use Rattle.tpl_model.specs.Members.{mem}
 use Rattle.tpl_model.specs.TaskSet.{IsTaskSet}
-use Rattle.tpl_model.specs.Certificate.{Row}
+use Rattle.tpl_model.specs.Certificate.{PlainRow}
 use Rattle.tpl_draft.specs.Named.{Names}
 use Rattle.tpl_json.specs.declared.miss.Miss.{Miss}
 use Rattle.tpl_json.specs.declared.miss.Miss.TheVariants as miss
@@ -18,7 +18,7 @@ use Rattle.tpl_json.proofs.Passes.{each_empty, or_ok}
 use Rattle.tpl_paths.specs.declared.token_set.TokenSet.{TokenSet}
 use Rattle.tpl_paths.specs.TokenSet.{has_token, no_tokens}
 use Rattle.tpl_trees.specs.Sets.{as_set, IsSet}
-use Rattle.tpl_trees.specs.WideCoding.{tokens_in}
+use Rattle.tpl_trees.specs.Coding.{tokens_in}
 use Rattle.tpl_trees.proofs.TokenLists.{tokens_are}
 use Rattle.tpl_cert.specs.NamedTrees.{NamedRow}
 use Rattle.tpl_cert.specs.Plain.{IsPlainRow}
@@ -100,7 +100,7 @@ tokens_collected names texts set is = rw (is.named, tokens_are is.numbers set is
 no_tokens_named : (names : List (List ℕ)) → set_in 32 names [] ≡ Ok []
 no_tokens_named names = rw (each_empty (λ n text. ok_or (number_of names text) Unknown) 1) refl
 
-pub bare_row : (n : Names) (s : NamedRow) (r : Row) → IsPlainRow s → row_in n s ≡ Ok r → wide_row_in n s ≡ Ok (bare r)
+pub bare_row : (n : Names) (s : NamedRow) (r : PlainRow) → IsPlainRow s → row_in n s ≡ Ok r → wide_row_in n s ≡ Ok (bare r)
 unfolding wide_row_in
 bare_row n s r plain e = rw (e, plain.0, plain.1, no_tokens_named n.tokens) refl
 

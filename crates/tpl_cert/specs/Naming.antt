@@ -3,8 +3,7 @@ use Rattle.std.specs.Prelude.{ℕ, Bool, List, Option, is_some, Result, Ok, ok_o
 use Rattle.std.specs.List.{position}
 use Rattle.std.specs.Str.{bytes_eq}
 use Rattle.tpl_model.specs.declared.limits.TheConstants.{MOST_TASKS, MOST_TOKENS}
-use Rattle.tpl_model.specs.Certificate.{Row}
-use Rattle.tpl_model.specs.WiderRules.{WideRow, WideTree, OnInput, OnEnd, OnWinner, WideLeaf, LeastLeaf}
+use Rattle.tpl_model.specs.Certificate.{PlainRow, Row, Tree, OnInput, OnEnd, OnWinner, RowsLeaf, LeastLeaf}
 use Rattle.tpl_draft.specs.Named.{Names}
 use Rattle.tpl_json.specs.Passes.{◌>>=◌, each_from, all_or}
 use Rattle.tpl_trees.specs.Sets.{as_set}
@@ -33,7 +32,7 @@ set_in most names texts = do
   Ok (as_set most ns)
 
 -- a row, without its tokens
-unfoldable pub row_in : Names → NamedRow → Result Row TreeFault
+unfoldable pub row_in : Names → NamedRow → Result PlainRow TreeFault
 row_in n r = do
   before ← set_in MOST_TASKS n.tasks r.before
   past ← set_in MOST_TASKS n.tasks r.past
@@ -41,7 +40,7 @@ row_in n r = do
   Ok (record { ends = r.ends; runs = r.runs; before = before; past = past; chain = chain })
 
 -- a row
-unfoldable pub wide_row_in : Names → NamedRow → Result WideRow TreeFault
+unfoldable pub wide_row_in : Names → NamedRow → Result Row TreeFault
 wide_row_in n r = do
   row ← row_in n r
   asked ← set_in MOST_TOKENS n.tokens r.asked
@@ -49,11 +48,11 @@ wide_row_in n r = do
   Ok (record { row = row; asked = asked; asks = asks })
 
 -- the rows of a leaf
-abbrev pub wide_rows_in : Names → List NamedRow → Result (List WideRow) TreeFault
+abbrev pub wide_rows_in : Names → List NamedRow → Result (List Row) TreeFault
 wide_rows_in n rows = each_from (λ k r. wide_row_in n r) 1 rows
 
 -- a tree
-unfoldable pub tree_in : Names → NamedTree → Result WideTree TreeFault
+unfoldable pub tree_in : Names → NamedTree → Result Tree TreeFault
 tree_in n (SplitInput name a b) = do
   input ← number_in n.inputs name
   on_true ← tree_in n a
@@ -73,5 +72,5 @@ tree_in n (SplitWinner name other a b) = do
   Ok (OnWinner task argument on_yes on_no)
 tree_in n (Leaf rows) = do
   rows ← wide_rows_in n rows
-  Ok (WideLeaf rows)
+  Ok (RowsLeaf rows)
 tree_in n Least = Ok LeastLeaf

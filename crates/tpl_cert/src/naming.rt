@@ -5,7 +5,7 @@ ghost use Rattle.tpl_cert.specs.Prelude.{IsPlain, IsPlainRow, number_in, numbers
 ghost use Rattle.tpl_draft.specs.Prelude.{input_number, task_number, token_number};
 ghost use Rattle.tpl_json.specs.Prelude.{Yields};
 ghost use Rattle.tpl_json.specs.declared.miss.Miss.TheVariants as miss;
-ghost use Rattle.tpl_model.specs.Prelude.{as_wide, as_wide_tree};
+ghost use Rattle.tpl_model.specs.Prelude.{};
 ghost use Rattle.tpl_trees.specs.Prelude.{tokens_in};
 
 use crate::fault::TreeFault;
@@ -15,7 +15,7 @@ use tpl_graph::Graph;
 use tpl_json::{Miss, read_each};
 use tpl_model::{InputId, MOST_TASKS, MOST_TOKENS, TaskId, TaskSet, TokenId};
 use tpl_paths::TokenSet;
-use tpl_trees::{Node, Row, Tree, WideNode, WideRow, WideTree};
+use tpl_trees::{Node, PlainRow, Tree, Row};
 
 fn input_in(graph: &Graph, name: &str) -> Result<InputId, Miss<TreeFault>>
     ensures yields { Yields input_number result (number_in graph.now.names.inputs name.now) }
@@ -83,26 +83,26 @@ fn chain_in(alloc: Global, graph: &Graph, names: &[&str]) -> Result<Vec<TaskId>,
 
 /// The row, without its tokens.
 #[tactic(auto, unfolding(crate::specs::Naming::row_in))]
-fn row_in(alloc: Global, graph: &Graph, row: &NamedRow) -> Result<Row, Miss<TreeFault>>
+fn row_in(alloc: Global, graph: &Graph, row: &NamedRow) -> Result<PlainRow, Miss<TreeFault>>
     ensures { Yields (λ r. r) result (row_in graph.now.names (row_of row.now)) }
 {
     let before = tasks_in(graph, &row.before)?;
     let past = tasks_in(graph, &row.past)?;
     let chain = chain_in(alloc, graph, &row.chain)?;
-    Ok(Row::new(row.ends, row.runs, before, past, chain))
+    Ok(PlainRow::new(row.ends, row.runs, before, past, chain))
 }
 
 #[tactic(auto, unfolding(crate::specs::Naming::wide_row_in))]
-fn wide_row_in(alloc: Global, graph: &Graph, row: &NamedRow) -> Result<WideRow, Miss<TreeFault>>
+fn wide_row_in(alloc: Global, graph: &Graph, row: &NamedRow) -> Result<Row, Miss<TreeFault>>
     ensures { Yields (λ r. r) result (wide_row_in graph.now.names (row_of row.now)) }
 {
     let plain = row_in(alloc, graph, row)?;
     let asked = tokens_in(graph, &row.asked)?;
     let asks = tokens_in(graph, &row.asks)?;
-    Ok(WideRow::new(plain, asked, asks))
+    Ok(Row::new(plain, asked, asks))
 }
 
-fn rows_in(alloc: Global, graph: &Graph, rows: &[NamedRow]) -> Result<Vec<Row>, Miss<TreeFault>>
+fn rows_in(alloc: Global, graph: &Graph, rows: &[NamedRow]) -> Result<Vec<PlainRow>, Miss<TreeFault>>
     requires { All (λ r. IsPlainRow (row_of r)) rows.now }
     ensures { Yields (λ v. as_wide v.items) result
         (wide_rows_in graph.now.names (map row_of rows.now)) }
@@ -119,7 +119,7 @@ fn wide_rows_in(
     alloc: Global,
     graph: &Graph,
     rows: &[NamedRow],
-) -> Result<Vec<WideRow>, Miss<TreeFault>>
+) -> Result<Vec<Row>, Miss<TreeFault>>
     ensures { Yields (λ v. v.items) result
         (wide_rows_in graph.now.names (map row_of rows.now)) }
 {
@@ -174,7 +174,7 @@ fn wide_inside_in(
     alloc: Global,
     graph: &Graph,
     tree: &NamedTree,
-) -> Result<Box<WideTree>, Miss<TreeFault>>
+) -> Result<Box<Tree>, Miss<TreeFault>>
     ensures { Yields (λ b. b.value) result (tree_in graph.now.names (tree_of tree.now)) }
 {
     let found = wide_tree_in(alloc, graph, tree)?;
@@ -188,7 +188,7 @@ pub(crate) fn wide_tree_in(
     alloc: Global,
     graph: &Graph,
     tree: &NamedTree,
-) -> Result<WideTree, Miss<TreeFault>>
+) -> Result<Tree, Miss<TreeFault>>
     ensures { Yields (λ t. t) result (tree_in graph.now.names (tree_of tree.now)) }
 {
     match tree {
@@ -196,26 +196,26 @@ pub(crate) fn wide_tree_in(
             let input = input_in(graph, name)?;
             let first = wide_inside_in(alloc, graph, first)?;
             let second = wide_inside_in(alloc, graph, second)?;
-            Ok(WideTree::new(WideNode::SplitInput(input, first, second)))
+            Ok(Tree::new(Node::SplitInput(input, first, second)))
         }
         NamedTree::SplitEnd(name, ran, canceled, faulted) => {
             let task = task_in(graph, name)?;
             let ran = wide_inside_in(alloc, graph, ran)?;
             let canceled = wide_inside_in(alloc, graph, canceled)?;
             let faulted = wide_inside_in(alloc, graph, faulted)?;
-            Ok(WideTree::new(WideNode::SplitEnd(task, ran, canceled, faulted)))
+            Ok(Tree::new(Node::SplitEnd(task, ran, canceled, faulted)))
         }
         NamedTree::SplitWinner(name, other, first, second) => {
             let task = task_in(graph, name)?;
             let argument = task_in(graph, other)?;
             let first = wide_inside_in(alloc, graph, first)?;
             let second = wide_inside_in(alloc, graph, second)?;
-            Ok(WideTree::new(WideNode::SplitWinner(task, argument, first, second)))
+            Ok(Tree::new(Node::SplitWinner(task, argument, first, second)))
         }
         NamedTree::Leaf(rows) => {
             let rows = wide_rows_in(alloc, graph, rows)?;
-            Ok(WideTree::new(WideNode::Leaf(rows)))
+            Ok(Tree::new(Node::Leaf(rows)))
         }
-        NamedTree::Least => Ok(WideTree::new(WideNode::Least)),
+        NamedTree::Least => Ok(Tree::new(Node::Least)),
     }
 }

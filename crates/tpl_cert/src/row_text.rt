@@ -7,7 +7,7 @@ ghost use Rattle.serde_json.specs.Data.{array, string};
 ghost use Rattle.serde_json.specs.View.{items_of};
 ghost use Rattle.tpl_cert.specs.Prelude.{HasRowSets, Puts, PutsMembers, PutsValue, Writes, bare, has_row_ids, has_task_ids, is_id, name_at, names_data, row_data, row_members, texts_data, word_if, words_of};
 ghost use Rattle.tpl_draft.specs.Prelude.{task_number};
-ghost use Rattle.tpl_model.specs.Prelude.{IsTaskSet, as_wide};
+ghost use Rattle.tpl_model.specs.Prelude.{IsTaskSet};
 ghost use Rattle.tpl_model.specs.declared.rule_set.RuleSet.TheVariants.{Narrow, Wide};
 ghost use Rattle.tpl_trees.specs.Prelude.{HasTaskSets, tokens_in};
 
@@ -17,7 +17,7 @@ use std::alloc::AllocError;
 use tpl_graph::Graph;
 use tpl_model::{Finals, MOST_TOKENS, TaskId, TaskSet, TokenId};
 use tpl_paths::TokenSet;
-use tpl_trees::{Row, WideRow};
+use tpl_trees::{PlainRow, Row};
 
 /// The name of a task, where it is the graph's.
 pub(crate) fn task_name(graph: &Graph, task: TaskId) -> Result<&str, TreeToFault>
@@ -154,7 +154,7 @@ fn close_row(runs: bool, out: &mut Writer) -> Result<(), AllocError>
 }
 
 /// The members of a row that don't speak of tokens, and its end.
-fn write_members(graph: &Graph, row: &Row, out: &mut Writer) -> Result<(), TreeToFault>
+fn write_members(graph: &Graph, row: &PlainRow, out: &mut Writer) -> Result<(), TreeToFault>
     ensures { Writes result (has_task_ids graph.now.names row.now)
         (λ _. PutsMembers (row_members graph.now.names row.now) out.old out.new
         × HasTaskSets row.now) }
@@ -172,7 +172,7 @@ fn write_members(graph: &Graph, row: &Row, out: &mut Writer) -> Result<(), TreeT
 }
 
 /// A row by the narrow rules.
-fn write_row(graph: &Graph, row: &Row, out: &mut Writer) -> Result<(), TreeToFault>
+fn write_row(graph: &Graph, row: &PlainRow, out: &mut Writer) -> Result<(), TreeToFault>
     ensures { Writes result (has_row_ids graph.now.names (bare row.now))
         (λ _. PutsValue (row_data Narrow graph.now.names (bare row.now)) out.old out.new
         × HasRowSets (bare row.now)) }
@@ -183,7 +183,7 @@ fn write_row(graph: &Graph, row: &Row, out: &mut Writer) -> Result<(), TreeToFau
 }
 
 /// A row by the wide rules, with its tokens first.
-fn write_wide_row(graph: &Graph, row: &WideRow, out: &mut Writer) -> Result<(), TreeToFault>
+fn write_wide_row(graph: &Graph, row: &Row, out: &mut Writer) -> Result<(), TreeToFault>
     ensures { Writes result (has_row_ids graph.now.names row.now)
         (λ _. PutsValue (row_data Wide graph.now.names row.now) out.old out.new
         × HasRowSets row.now) }
@@ -198,7 +198,7 @@ fn write_wide_row(graph: &Graph, row: &WideRow, out: &mut Writer) -> Result<(), 
 }
 
 /// The rows of a leaf by the narrow rules.
-pub(crate) fn write_rows(graph: &Graph, rows: &[Row], out: &mut Writer) -> Result<(), TreeToFault>
+pub(crate) fn write_rows(graph: &Graph, rows: &[PlainRow], out: &mut Writer) -> Result<(), TreeToFault>
     ensures { Writes result (list_all (has_row_ids graph.now.names) (as_wide rows.now))
         (λ _. PutsValue (array (items_of (map (row_data Narrow graph.now.names)
         (as_wide rows.now)))) out.old out.new × All HasRowSets (as_wide rows.now)) }
@@ -214,7 +214,7 @@ pub(crate) fn write_rows(graph: &Graph, rows: &[Row], out: &mut Writer) -> Resul
 /// The rows of a leaf by the wide rules.
 pub(crate) fn write_wide_rows(
     graph: &Graph,
-    rows: &[WideRow],
+    rows: &[Row],
     out: &mut Writer,
 ) -> Result<(), TreeToFault>
     ensures { Writes result (list_all (has_row_ids graph.now.names) rows.now)

@@ -10,10 +10,10 @@ ghost use Rattle.serde_json.specs.Read.{read};
 ghost use Rattle.serde_json.specs.View.{items_of};
 ghost use Rattle.serde_json.specs.Written.{compact_text};
 ghost use Rattle.tpl_cert.specs.Prelude.{HasRowSets, HasSets, Puts, PutsValue, Writes, certificate_data, has_ids, has_row_ids, is_id, leaf_data, name_at, row_data, spelled_tree, tree_data};
-ghost use Rattle.tpl_model.specs.Prelude.{as_wide, as_wide_tree};
+ghost use Rattle.tpl_model.specs.Prelude.{};
 ghost use Rattle.tpl_model.specs.declared.rule_set.RuleSet.{RuleSet};
 ghost use Rattle.tpl_model.specs.declared.rule_set.RuleSet.TheVariants.{Narrow, Wide};
-ghost use Rattle.tpl_trees.specs.Prelude.{height, wide_height};
+ghost use Rattle.tpl_trees.specs.Prelude.{height};
 
 use crate::fault::TreeToFault;
 use crate::row_text::{open_object, task_name, write_rows, write_wide_rows};
@@ -21,7 +21,7 @@ use json::Writer;
 use std::alloc::{AllocError, Global};
 use tpl_graph::Graph;
 use tpl_model::{InputId, MOST_SPLITS};
-use tpl_trees::{Node, Row, Tree, WideNode, WideRow, WideTree};
+use tpl_trees::{Node, PlainRow, Tree, Row};
 
 /// The name of an input, where it is the graph's.
 fn input_name(graph: &Graph, input: InputId) -> Result<&str, TreeToFault>
@@ -47,7 +47,7 @@ fn write_text(key: &str, text: &str, out: &mut Writer) -> Result<(), AllocError>
 }
 
 /// A leaf by the narrow rules.
-fn write_leaf(graph: &Graph, rows: &[Row], out: &mut Writer) -> Result<(), TreeToFault>
+fn write_leaf(graph: &Graph, rows: &[PlainRow], out: &mut Writer) -> Result<(), TreeToFault>
     ensures { Writes result (list_all (has_row_ids graph.now.names) (as_wide rows.now))
         (λ _. PutsValue (leaf_data (array (items_of (map (row_data Narrow graph.now.names)
         (as_wide rows.now))))) out.old out.new × All HasRowSets (as_wide rows.now)) }
@@ -59,7 +59,7 @@ fn write_leaf(graph: &Graph, rows: &[Row], out: &mut Writer) -> Result<(), TreeT
 }
 
 /// A leaf with rows by the wide rules.
-fn write_wide_leaf(graph: &Graph, rows: &[WideRow], out: &mut Writer) -> Result<(), TreeToFault>
+fn write_wide_leaf(graph: &Graph, rows: &[Row], out: &mut Writer) -> Result<(), TreeToFault>
     ensures { Writes result (list_all (has_row_ids graph.now.names) rows.now)
         (λ _. PutsValue (leaf_data (array (items_of (map (row_data Wide graph.now.names)
         rows.now)))) out.old out.new × All HasRowSets rows.now) }
@@ -104,13 +104,13 @@ fn write_tree(graph: &Graph, tree: &Tree, out: &mut Writer) -> Result<(), TreeTo
 }
 
 /// A tree by the wide rules: the same walk over a type of its own.
-fn write_wide_tree(graph: &Graph, tree: &WideTree, out: &mut Writer) -> Result<(), TreeToFault>
+fn write_wide_tree(graph: &Graph, tree: &Tree, out: &mut Writer) -> Result<(), TreeToFault>
     ensures { Writes result (has_ids graph.now.names tree.now)
         (λ _. PutsValue (tree_data Wide graph.now.names tree.now) out.old out.new
         × HasSets tree.now) }
 {
     match tree.node() {
-        WideNode::SplitInput(input, yes, no) => {
+        Node::SplitInput(input, yes, no) => {
             let name = input_name(graph, *input)?;
             open_object("no", out)?;
             write_wide_tree(graph, no, out)?;
@@ -120,7 +120,7 @@ fn write_wide_tree(graph: &Graph, tree: &WideTree, out: &mut Writer) -> Result<(
             out.end_object()?;
             Ok(())
         }
-        WideNode::SplitEnd(task, ran, canceled, faulted) => {
+        Node::SplitEnd(task, ran, canceled, faulted) => {
             let name = task_name(graph, *task)?;
             open_object("canceled", out)?;
             write_wide_tree(graph, canceled, out)?;
@@ -132,7 +132,7 @@ fn write_wide_tree(graph: &Graph, tree: &WideTree, out: &mut Writer) -> Result<(
             out.end_object()?;
             Ok(())
         }
-        WideNode::SplitWinner(task, argument, yes, no) => {
+        Node::SplitWinner(task, argument, yes, no) => {
             let name = task_name(graph, *task)?;
             let other = task_name(graph, *argument)?;
             open_object("no", out)?;
@@ -144,8 +144,8 @@ fn write_wide_tree(graph: &Graph, tree: &WideTree, out: &mut Writer) -> Result<(
             out.end_object()?;
             Ok(())
         }
-        WideNode::Leaf(rows) => write_wide_leaf(graph, rows, out),
-        WideNode::Least => {
+        Node::Leaf(rows) => write_wide_leaf(graph, rows, out),
+        Node::Least => {
             out.string("least")?;
             Ok(())
         }
@@ -167,7 +167,7 @@ fn write_trees(graph: &Graph, trees: &[Tree], out: &mut Writer) -> Result<(), Tr
 }
 
 /// The trees by the wide rules, as an array.
-fn write_wide_trees(graph: &Graph, trees: &[WideTree], out: &mut Writer) -> Result<(), TreeToFault>
+fn write_wide_trees(graph: &Graph, trees: &[Tree], out: &mut Writer) -> Result<(), TreeToFault>
     ensures { Writes result (list_all (has_ids graph.now.names) trees.now)
         (λ _. PutsValue (certificate_data Wide graph.now.names trees.now) out.old out.new
         × All HasSets trees.now) }
@@ -221,11 +221,11 @@ pub fn trees_text(alloc: Global, graph: &Graph, trees: &[Tree]) -> Result<String
 pub fn wide_trees_text(
     alloc: Global,
     graph: &Graph,
-    trees: &[WideTree],
+    trees: &[Tree],
 ) -> Result<String, TreeToFault>
     ensures written { IfOk result (λ text. string_bytes text
         ≡ compact_text (certificate_data Wide graph.now.names trees.now)) }
-    ensures reads { IfOk result (λ text. All (λ tree. wide_height tree ≤ MOST_SPLITS) trees.now
+    ensures reads { IfOk result (λ text. All (λ tree. height tree ≤ MOST_SPLITS) trees.now
         → read (string_bytes text) ≡ Some (certificate_data Wide graph.now.names trees.now)) }
     ensures spells { IfOk result (λ _. All (λ tree. spelled_tree Wide graph.now.names
         (tree_data Wide graph.now.names tree) ≡ Ok tree) trees.now) }

@@ -5,7 +5,7 @@ use Rattle.tpl_model.specs.Graph.{TaskGraph}
 use Rattle.tpl_model.specs.Valid.{IsGraph}
 use Rattle.tpl_model.specs.declared.ids.TaskId.{TaskId}
 use Rattle.tpl_model.specs.declared.claim.Property.{Property}
-use Rattle.tpl_model.specs.Certificate.{Row, Assumed, AcceptsTree, Leaf, AllTasks, IdsOfRows}
+use Rattle.tpl_model.specs.Certificate.{PlainRow, Assumed, AcceptsTree, Leaf, AllTasks, IdsOfRows}
 use Rattle.tpl_laws.specs.ClaimTests.{proves}
 use Rattle.tpl_laws.specs.Decided.{FirstBrokenIsRight, ProvesIsRight}
 use Rattle.tpl_laws.specs.Verdict.{LeafFault, ProvesNot, or_else, unless, first_broken, leaf_fault, has_tasks, rows_fit}
@@ -23,7 +23,7 @@ of_tasks : (g : TaskGraph) (xs : List ℕ) → AllTasks g xs → has_tasks g xs 
 of_tasks g [] a = refl
 of_tasks g (x ∷ xs) a = and_from (nat_lt x (length g.tasks)) (has_tasks g xs) (is_below x (length g.tasks) a.0) (of_tasks g xs a.1)
 
-ids_of : (g : TaskGraph) (rows : List Row) → rows_fit g rows ≡ true → IdsOfRows g rows
+ids_of : (g : TaskGraph) (rows : List PlainRow) → rows_fit g rows ≡ true → IdsOfRows g rows
 ids_of g [] e = tt
 ids_of g (r ∷ rows) e =
     let s = and_parts (has_tasks g r.before && (has_tasks g r.past && has_tasks g r.chain)) (rows_fit g rows) e in
@@ -31,7 +31,7 @@ ids_of g (r ∷ rows) e =
     let q = and_parts (has_tasks g r.past) (has_tasks g r.chain) p.1 in
     (tasks_of g r.before p.0, tasks_of g r.past q.0, tasks_of g r.chain q.1, ids_of g rows s.1)
 
-of_ids : (g : TaskGraph) (rows : List Row) → IdsOfRows g rows → rows_fit g rows ≡ true
+of_ids : (g : TaskGraph) (rows : List PlainRow) → IdsOfRows g rows → rows_fit g rows ≡ true
 of_ids g [] a = refl
 of_ids g (r ∷ rows) a =
     and_from (has_tasks g r.before && (has_tasks g r.past && has_tasks g r.chain)) (rows_fit g rows)
@@ -49,7 +49,7 @@ none None true e f = refl
 none None false e f = absurd (cc)
 none (Some x) b e f = absurd (cc)
 
-module _ (g : TaskGraph) (p : Property TaskId) (l : Assumed) (rows : List Row) (graph : IsGraph g) (closed : FirstBrokenIsRight) (proved : ProvesIsRight) where
+module _ (g : TaskGraph) (p : Property TaskId) (l : Assumed) (rows : List PlainRow) (graph : IsGraph g) (closed : FirstBrokenIsRight) (proved : ProvesIsRight) where
   pub accepted : length rows ≡ length g.tasks → rows_fit g rows ≡ true → leaf_fault g p l rows ≡ None → AcceptsTree g p l (Leaf rows)
   accepted all ids e =
       let s = neither (first_broken g l rows 0 (length g.tasks)) (proves g l rows p) e in

@@ -7,7 +7,7 @@ use Rattle.std.proofs.lemmas.List.{drop_more}
 use Rattle.tpl_laws.proofs.FaultsDecided.{no_unless}
 use Rattle.tpl_model.specs.Graph.{TaskGraph}
 use Rattle.tpl_model.specs.Claims.{Claim}
-use Rattle.tpl_model.specs.Certificate.{Row, row, Tree, assumed_for}
+use Rattle.tpl_model.specs.Certificate.{PlainRow, row, Tree, assumed_for}
 use Rattle.tpl_model.specs.declared.fault.CertFault.{CertFault}
 use Rattle.tpl_model.specs.declared.fault.CertFault.TheVariants.{Shape}
 use Rattle.tpl_laws.specs.Verdict.{or_else, has_tasks, rows_fit, tree_fault, claims_fault}
@@ -28,7 +28,7 @@ pub failing_second : (a b : Option CertFault) (n m : ℕ) (r : Result ℕ CertFa
 failing_second a b n m (Ok k) e same f = (or_else_second a b e ∙ f.0, f.1 ∙ same)
 failing_second a b n m (Err x) e same f = or_else_second a b e ∙ f
 
-pub chain_fits : (g : TaskGraph) (rows : List Row) (t : ℕ) → rows_fit g rows ≡ true → t < length rows → has_tasks g (row rows t).chain ≡ true
+pub chain_fits : (g : TaskGraph) (rows : List PlainRow) (t : ℕ) → rows_fit g rows ≡ true → t < length rows → has_tasks g (row rows t).chain ≡ true
 chain_fits g [] t e lt = absurd (omega arith)
 chain_fits g (r ∷ rows) zero e lt =
     let s = and_parts (has_tasks g r.before && (has_tasks g r.past && has_tasks g r.chain)) (rows_fit g rows) e in

@@ -8,10 +8,10 @@ use crate::parents::parent;
 use crate::rows::{before_of, implies, row, settled_after, within};
 use tpl_graph::{Graph, Role};
 use tpl_model::{TaskId, TaskSet};
-use tpl_trees::Row;
+use tpl_trees::PlainRow;
 
 /// What stands before a task whose row runs may be taken as settled when it begins.
-pub(crate) fn before(graph: &Graph, rows: &[Row], task: TaskId) -> bool
+pub(crate) fn before(graph: &Graph, rows: &[PlainRow], task: TaskId) -> bool
     requires task { is_task graph.now.graph task.0 }
     requires rows { length rows.now ≡ length graph.now.graph.tasks }
     ensures { result ≡ before graph.now.graph rows.now task.0 }
@@ -21,7 +21,7 @@ pub(crate) fn before(graph: &Graph, rows: &[Row], task: TaskId) -> bool
 
 /// Before a root there is nothing, before a continuation its antecedent and what is past it, and
 /// before a child what is before its parent.
-fn is_settled(graph: &Graph, rows: &[Row], task: TaskId) -> bool
+fn is_settled(graph: &Graph, rows: &[PlainRow], task: TaskId) -> bool
     requires task { is_task graph.now.graph task.0 }
     requires rows { length rows.now ≡ length graph.now.graph.tasks }
     ensures { result ≡ all_in (before_by graph.now.graph rows.now task.0
@@ -38,7 +38,7 @@ fn is_settled(graph: &Graph, rows: &[Row], task: TaskId) -> bool
     }
 }
 
-fn is_before_parent(graph: &Graph, rows: &[Row], task: TaskId) -> bool
+fn is_before_parent(graph: &Graph, rows: &[PlainRow], task: TaskId) -> bool
     requires task { is_task graph.now.graph task.0 }
     requires rows { length rows.now ≡ length graph.now.graph.tasks }
     ensures { result ≡ all_in (before_by graph.now.graph rows.now task.0 Child)

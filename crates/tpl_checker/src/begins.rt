@@ -10,11 +10,11 @@ use crate::parents::parent;
 use crate::rows::{allowed, implies, row, some_end};
 use tpl_graph::{Graph, Role};
 use tpl_model::TaskId;
-use tpl_trees::Row;
+use tpl_trees::PlainRow;
 
 /// The row runs, if it is a root's, or its antecedent may end in a way that the options let the
 /// continuation run after, or its parent may start it.
-pub(crate) fn runs(graph: &Graph, rows: &[Row], bodies: &Bodies, task: TaskId) -> bool
+pub(crate) fn runs(graph: &Graph, rows: &[PlainRow], bodies: &Bodies, task: TaskId) -> bool
     requires task { is_task graph.now.graph task.0 }
     requires rows { length rows.now ≡ length graph.now.graph.tasks }
     ensures { (l : Assumed) → AreBodies graph.now.graph l rows.now bodies.now
@@ -28,7 +28,7 @@ pub(crate) fn runs(graph: &Graph, rows: &[Row], bodies: &Bodies, task: TaskId) -
     }
 }
 
-fn runs_after(graph: &Graph, rows: &[Row], task: TaskId, antecedent: TaskId) -> bool
+fn runs_after(graph: &Graph, rows: &[PlainRow], task: TaskId, antecedent: TaskId) -> bool
     requires task { is_task graph.now.graph task.0 }
     requires antecedent { is_task graph.now.graph antecedent.0 }
     requires rows { length rows.now ≡ length graph.now.graph.tasks }
@@ -39,7 +39,7 @@ fn runs_after(graph: &Graph, rows: &[Row], task: TaskId, antecedent: TaskId) -> 
     implies(some_end(ends), row(rows, task).runs())
 }
 
-fn runs_if_started(graph: &Graph, rows: &[Row], bodies: &Bodies, task: TaskId) -> bool
+fn runs_if_started(graph: &Graph, rows: &[PlainRow], bodies: &Bodies, task: TaskId) -> bool
     requires task { is_task graph.now.graph task.0 }
     requires rows { length rows.now ≡ length graph.now.graph.tasks }
     ensures { (l : Assumed) → AreBodies graph.now.graph l rows.now bodies.now

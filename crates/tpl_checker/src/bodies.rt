@@ -9,7 +9,7 @@ use crate::rows::with_if;
 use crate::view::view;
 use tpl_graph::Graph;
 use tpl_model::{TaskId, TaskSet};
-use tpl_trees::Row;
+use tpl_trees::PlainRow;
 
 /// How the bodies may end in the runs of a leaf, and which children they may start: the tasks of which
 /// some path returns, throws or acknowledges a cancellation, and the children that some path starts. A
@@ -51,7 +51,7 @@ impl Bodies {
     }
 
     /// The sets for all bodies of the graph, each of which is read once.
-    pub(crate) fn of_leaf(graph: &Graph, assumed: &Assumptions, rows: &[Row]) -> Bodies
+    pub(crate) fn of_leaf(graph: &Graph, assumed: &Assumptions, rows: &[PlainRow]) -> Bodies
         requires { length rows.now ≡ length graph.now.graph.tasks }
         ensures { AreBodies graph.now.graph (assumed_of assumed.now) rows.now result }
     {
@@ -63,7 +63,7 @@ impl Bodies {
     }
 
     /// The sets, with the body of one more task.
-    fn with(self, graph: &Graph, assumed: &Assumptions, rows: &[Row], task: TaskId) -> Bodies
+    fn with(self, graph: &Graph, assumed: &Assumptions, rows: &[PlainRow], task: TaskId) -> Bodies
         requires task { is_task graph.now.graph task.0 }
         requires rows { length rows.now ≡ length graph.now.graph.tasks }
         ensures { AreFirstBodies graph.now.graph (assumed_of assumed.now) rows.now task.0 self

@@ -12,10 +12,10 @@ use crate::rows::{is_member, row};
 use crate::view::faulted_view;
 use tpl_graph::{Graph, Role};
 use tpl_model::{Final, TaskId};
-use tpl_trees::Row;
+use tpl_trees::PlainRow;
 
 /// The chain of the row of the task, if it has one, leads to a reader.
-pub(crate) fn chain(graph: &Graph, assumed: &Assumptions, rows: &[Row], task: TaskId) -> bool
+pub(crate) fn chain(graph: &Graph, assumed: &Assumptions, rows: &[PlainRow], task: TaskId) -> bool
     requires task { is_task graph.now.graph task.0 }
     requires rows { length rows.now ≡ length graph.now.graph.tasks }
     requires ids { IsTrue (has_tasks graph.now.graph (row rows.now task.0).chain) }

@@ -15,13 +15,13 @@ use crate::rows::{excluded, implies, row, some_end};
 use crate::view::{NO_END, ends_of_one};
 use tpl_graph::{Graph, Role};
 use tpl_model::{Final, Finals, TaskId, TaskSet};
-use tpl_trees::Row;
+use tpl_trees::PlainRow;
 
 /// Each way in which the task may end stands in its row, but for those that the leaf leaves out.
 pub(crate) fn ends(
     graph: &Graph,
     assumed: &Assumptions,
-    rows: &[Row],
+    rows: &[PlainRow],
     bodies: &Bodies,
     task: TaskId,
 ) -> bool
@@ -58,7 +58,7 @@ fn is_listed(
 fn may_end(
     graph: &Graph,
     assumed: &Assumptions,
-    rows: &[Row],
+    rows: &[PlainRow],
     bodies: &Bodies,
     task: TaskId,
 ) -> Finals
@@ -81,7 +81,7 @@ fn may_end(
 fn ready_ends(
     graph: &Graph,
     assumed: &Assumptions,
-    rows: &[Row],
+    rows: &[PlainRow],
     bodies: &Bodies,
     task: TaskId,
 ) -> Finals
@@ -104,7 +104,7 @@ fn ready_ends(
 fn continued_ends(
     graph: &Graph,
     assumed: &Assumptions,
-    rows: &[Row],
+    rows: &[PlainRow],
     bodies: &Bodies,
     task: TaskId,
     antecedent: TaskId,
@@ -139,7 +139,7 @@ fn with_canceled(ends: Finals, canceled: bool) -> Finals
 fn may_be_canceled(
     graph: &Graph,
     assumed: &Assumptions,
-    rows: &[Row],
+    rows: &[PlainRow],
     task: TaskId,
     antecedent: TaskId,
 ) -> bool
@@ -164,7 +164,7 @@ fn canceled_by_token(loud: bool, lazy: bool, may_be_final: bool) -> bool
 }
 
 /// How the body of a task whose row runs may end it.
-fn body_ends(graph: &Graph, rows: &[Row], bodies: &Bodies, task: TaskId) -> Finals
+fn body_ends(graph: &Graph, rows: &[PlainRow], bodies: &Bodies, task: TaskId) -> Finals
     requires task { is_task graph.now.graph task.0 }
     requires rows { length rows.now ≡ length graph.now.graph.tasks }
     ensures { (l : Assumed) → AreBodies graph.now.graph l rows.now bodies.now
@@ -184,7 +184,7 @@ fn body_ends(graph: &Graph, rows: &[Row], bodies: &Bodies, task: TaskId) -> Fina
 }
 
 /// An attached child may be started and end Faulted: its parent takes over its exceptions.
-fn child_may_fault(graph: &Graph, rows: &[Row], bodies: &Bodies, task: TaskId) -> bool
+fn child_may_fault(graph: &Graph, rows: &[PlainRow], bodies: &Bodies, task: TaskId) -> bool
     requires task { is_task graph.now.graph task.0 }
     requires rows { length rows.now ≡ length graph.now.graph.tasks }
     ensures { (l : Assumed) → AreBodies graph.now.graph l rows.now bodies.now
@@ -197,7 +197,7 @@ fn child_may_fault(graph: &Graph, rows: &[Row], bodies: &Bodies, task: TaskId) -
 }
 
 /// One of the tasks is in the set and may end Faulted.
-fn some_faults(rows: &[Row], started: &TaskSet, tasks: &[TaskId]) -> bool
+fn some_faults(rows: &[PlainRow], started: &TaskSet, tasks: &[TaskId]) -> bool
     requires { AreTasks (length rows.now) tasks.now }
     ensures { result ≡ some_in (λ c. mem c started.now && has (row rows.now c).ends finals.Faulted)
         (map task_number tasks.now) }
@@ -212,7 +212,7 @@ fn some_faults(rows: &[Row], started: &TaskSet, tasks: &[TaskId]) -> bool
 
 /// How a WhenAll task may end: Faulted if one argument is, else Canceled if one is, else
 /// RanToCompletion.
-fn all_end(rows: &[Row], args: &[TaskId]) -> Finals
+fn all_end(rows: &[PlainRow], args: &[TaskId]) -> Finals
     requires { AreTasks (length rows.now) args.now }
     ensures { (f : Final) → has result f ≡ all_may_end rows.now (map task_number args.now) f }
 {
@@ -224,7 +224,7 @@ fn all_end(rows: &[Row], args: &[TaskId]) -> Finals
 }
 
 /// A WhenAny task ends RanToCompletion, once one argument has ended.
-fn any_ends(rows: &[Row], args: &[TaskId]) -> Finals
+fn any_ends(rows: &[PlainRow], args: &[TaskId]) -> Finals
     requires { AreTasks (length rows.now) args.now }
     ensures { (g : TaskGraph) (l : Assumed) (t : ℕ) (f : Final) → has result f
         ≡ may_end_as g l rows.now t (WhenAny (map task_number args.now)) f }

@@ -9,18 +9,18 @@ use crate::bodies::Bodies;
 use crate::view::subject;
 use tpl_graph::Graph;
 use tpl_model::TaskId;
-use tpl_trees::Row;
+use tpl_trees::PlainRow;
 
 /// A leaf whose bodies were read: what it assumes, its rows, and how the bodies may end in its runs.
 #[derive(Drop)]
 pub(crate) struct LastLeaf<'c> {
     assumed: Assumptions,
-    rows: &'c [Row],
+    rows: &'c [PlainRow],
     bodies: Bodies,
 }
 
 /// Each body sees the same in another leaf as in the last one.
-fn sees_same(graph: &Graph, last: &LastLeaf<'_>, assumed: &Assumptions, rows: &[Row]) -> bool
+fn sees_same(graph: &Graph, last: &LastLeaf<'_>, assumed: &Assumptions, rows: &[PlainRow]) -> bool
     requires last { length last.now.rows.now ≡ length graph.now.graph.tasks }
     requires rows { length rows.now ≡ length graph.now.graph.tasks }
     ensures { IsTrue result → (t : ℕ) → t < length graph.now.graph.tasks
@@ -48,7 +48,7 @@ pub(crate) fn bodies_of<'c>(
     graph: &Graph,
     last: &mut Option<LastLeaf<'c>>,
     assumed: &Assumptions,
-    rows: &'c [Row],
+    rows: &'c [PlainRow],
 ) -> Bodies
     requires last { IfSome last.old (IsLast graph.now.graph) }
     requires rows { length rows.now ≡ length graph.now.graph.tasks }

@@ -18,7 +18,7 @@ use crate::property::proves;
 use crate::shape::rows_fit;
 use tpl_graph::{Graph, Role};
 use tpl_model::{Property, Rule, TaskId};
-use tpl_trees::Row;
+use tpl_trees::PlainRow;
 
 /// Why a leaf fails.
 #[derive(Clone, Copy)]
@@ -37,7 +37,7 @@ pub fn accepts_leaf(
     property: Property,
     assumed: &Assumptions,
     below: &Below,
-    rows: &[Row],
+    rows: &[PlainRow],
 ) -> bool
     requires tasks { TasksOf graph.now.graph property }
     requires below { AreBelow graph.now.graph below.now }
@@ -66,7 +66,7 @@ pub(crate) fn leaf_fault(
     property: Property,
     assumed: &Assumptions,
     below: &Below,
-    rows: &[Row],
+    rows: &[PlainRow],
     bodies: &Bodies,
 ) -> Option<LeafFault>
     requires tasks { TasksOf graph.now.graph property }
@@ -91,7 +91,7 @@ fn first_broken(
     graph: &Graph,
     assumed: &Assumptions,
     below: &Below,
-    rows: &[Row],
+    rows: &[PlainRow],
     bodies: &Bodies,
 ) -> Option<LeafFault>
     requires below { AreBelow graph.now.graph below.now }
@@ -115,7 +115,7 @@ fn broken(
     graph: &Graph,
     assumed: &Assumptions,
     below: &Below,
-    rows: &[Row],
+    rows: &[PlainRow],
     bodies: &Bodies,
     task: TaskId,
 ) -> Option<Rule>

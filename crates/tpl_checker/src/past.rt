@@ -13,7 +13,7 @@ use crate::parents::parent;
 use crate::rows::{before_of, past_of, row, settled_after, within};
 use tpl_graph::{Graph, Role};
 use tpl_model::{MOST_TASKS, TaskId, TaskSet};
-use tpl_trees::Row;
+use tpl_trees::PlainRow;
 
 /// Whether each member of a row's `past` may be taken as settled when the task has ended. Where the
 /// task has a body that goes for what is below it, since a parent ends after its attached children.
@@ -21,7 +21,7 @@ pub(crate) fn past(
     graph: &Graph,
     assumed: &Assumptions,
     below: &Below,
-    rows: &[Row],
+    rows: &[PlainRow],
     task: TaskId,
 ) -> bool
     requires task { is_task graph.now.graph task.0 }
@@ -43,7 +43,7 @@ pub(crate) fn past(
 }
 
 /// Past a child is also what is before its parent.
-fn is_past_child(graph: &Graph, below: &Below, rows: &[Row], task: TaskId) -> bool
+fn is_past_child(graph: &Graph, below: &Below, rows: &[PlainRow], task: TaskId) -> bool
     requires task { is_task graph.now.graph task.0 }
     requires rows { length rows.now ≡ length graph.now.graph.tasks }
     requires below { AreBelow graph.now.graph below.now }
@@ -66,7 +66,7 @@ fn is_past_continuation(
     graph: &Graph,
     assumed: &Assumptions,
     below: &Below,
-    rows: &[Row],
+    rows: &[PlainRow],
     task: TaskId,
     antecedent: TaskId,
 ) -> bool
@@ -86,7 +86,7 @@ fn is_past_continuation(
 }
 
 /// A continuation that may be canceled while its antecedent runs.
-fn may_end_early(graph: &Graph, assumed: &Assumptions, rows: &[Row], task: TaskId) -> bool
+fn may_end_early(graph: &Graph, assumed: &Assumptions, rows: &[PlainRow], task: TaskId) -> bool
     requires task { is_task graph.now.graph task.0 }
     requires rows { length rows.now ≡ length graph.now.graph.tasks }
     ensures { result ≡ may_end_early graph.now.graph (assumed_of assumed.now) rows.now task.0 }
@@ -98,7 +98,7 @@ fn may_end_early(graph: &Graph, assumed: &Assumptions, rows: &[Row], task: TaskI
 }
 
 /// The tasks, and what is past one of them: WhenAll ends after each.
-fn settled_after_some(rows: &[Row], tasks: &[TaskId]) -> TaskSet
+fn settled_after_some(rows: &[PlainRow], tasks: &[TaskId]) -> TaskSet
     requires tasks { AreTasks (length rows.now) tasks.now }
     requires limit { length rows.now ≤ MOST_TASKS }
     ensures { (x : ℕ) → mem x result ≡ some_in (λ y. nat_eq x y
@@ -112,7 +112,7 @@ fn settled_after_some(rows: &[Row], tasks: &[TaskId]) -> TaskSet
 }
 
 /// Of the set, those that are settled after each of the tasks, since WhenAny may end after any one of them.
-fn settled_after_each(rows: &[Row], tasks: &[TaskId], set: &TaskSet) -> TaskSet
+fn settled_after_each(rows: &[PlainRow], tasks: &[TaskId], set: &TaskSet) -> TaskSet
     requires tasks { AreTasks (length rows.now) tasks.now }
     requires limit { length rows.now ≤ MOST_TASKS }
     ensures { (x : ℕ) → mem x result ≡ (mem x set.now && all_in (λ y. nat_eq x y

@@ -12,13 +12,13 @@ use crate::bodies::Bodies;
 use crate::rows::{implies, may_end, row};
 use tpl_graph::{Graph, Kind};
 use tpl_model::{Finals, Property, TaskId};
-use tpl_trees::Row;
+use tpl_trees::PlainRow;
 
 /// The rows of a closed leaf prove the claim's property.
 pub(crate) fn proves(
     graph: &Graph,
     assumed: &Assumptions,
-    rows: &[Row],
+    rows: &[PlainRow],
     bodies: &Bodies,
     property: Property,
 ) -> bool
@@ -57,7 +57,7 @@ pub fn ends_only_in(ends: Finals, allowed: Finals) -> bool
 fn is_observed(
     graph: &Graph,
     assumed: &Assumptions,
-    rows: &[Row],
+    rows: &[PlainRow],
     bodies: &Bodies,
     task: TaskId,
 ) -> bool
@@ -75,7 +75,7 @@ fn is_observed(
 
 /// The task has begun in each complete run: it is a root or a continuation that isn't canceled, or no
 /// run is complete.
-fn runs(graph: &Graph, rows: &[Row], task: TaskId) -> bool
+fn runs(graph: &Graph, rows: &[PlainRow], task: TaskId) -> bool
     requires task { is_task graph.now.graph task.0 }
     requires rows { length rows.now ≡ length graph.now.graph.tasks }
     ensures { (l : Assumed) → result ≡ proves graph.now.graph l rows.now (Runs task) }
@@ -96,7 +96,7 @@ pub fn begins_itself(graph: &Graph, task: TaskId) -> bool
 }
 
 /// No run is complete: a task that is no child can't end.
-fn none_complete(graph: &Graph, rows: &[Row]) -> bool
+fn none_complete(graph: &Graph, rows: &[PlainRow]) -> bool
     requires { length rows.now ≡ length graph.now.graph.tasks }
     ensures { result ≡ none_complete graph.now.graph rows.now }
 {
@@ -111,7 +111,7 @@ fn none_complete(graph: &Graph, rows: &[Row]) -> bool
 }
 
 /// The task is no child and can't end.
-fn is_stuck(graph: &Graph, rows: &[Row], task: TaskId) -> bool
+fn is_stuck(graph: &Graph, rows: &[PlainRow], task: TaskId) -> bool
     requires task { is_task graph.now.graph task.0 }
     requires rows { length rows.now ≡ length graph.now.graph.tasks }
     ensures { result ≡ (to_end (kind graph.now.graph task.0) false && not (may_end rows.now task.0)) }

@@ -6,10 +6,10 @@ ghost use Rattle.tpl_laws.specs.Prelude.{all_in, implies, some_end};
 ghost use Rattle.tpl_model.specs.Prelude.{allows, has, may_end, mem, row};
 
 use tpl_model::{Final, Finals, MOST_TASKS, Options, TaskId, TaskSet};
-use tpl_trees::Row;
+use tpl_trees::PlainRow;
 
 /// The row of a task.
-pub(crate) fn row(rows: &[Row], task: TaskId) -> &Row
+pub(crate) fn row(rows: &[PlainRow], task: TaskId) -> &PlainRow
     requires { task.0 < length rows.now }
     ensures { result.now ≡ row rows.now task.0 }
 {
@@ -17,7 +17,7 @@ pub(crate) fn row(rows: &[Row], task: TaskId) -> &Row
 }
 
 /// What is settled when a task begins, by its row.
-pub(crate) fn before_of(rows: &[Row], task: TaskId) -> &TaskSet
+pub(crate) fn before_of(rows: &[PlainRow], task: TaskId) -> &TaskSet
     requires { task.0 < length rows.now }
     ensures { result.now ≡ (row rows.now task.0).before }
 {
@@ -25,7 +25,7 @@ pub(crate) fn before_of(rows: &[Row], task: TaskId) -> &TaskSet
 }
 
 /// What is settled when it has ended, by its row.
-pub(crate) fn past_of(rows: &[Row], task: TaskId) -> &TaskSet
+pub(crate) fn past_of(rows: &[PlainRow], task: TaskId) -> &TaskSet
     requires { task.0 < length rows.now }
     ensures { result.now ≡ (row rows.now task.0).past }
 {
@@ -40,7 +40,7 @@ pub fn some_end(finals: Finals) -> bool
 }
 
 /// The task may end, by its row.
-pub(crate) fn may_end(rows: &[Row], task: TaskId) -> bool
+pub(crate) fn may_end(rows: &[PlainRow], task: TaskId) -> bool
     requires { task.0 < length rows.now }
     ensures { result ≡ may_end rows.now task.0 }
 {
@@ -77,7 +77,7 @@ pub fn implies(condition: bool, other: bool) -> bool
 }
 
 /// The task and what is past it.
-pub(crate) fn settled_after(rows: &[Row], task: TaskId) -> TaskSet
+pub(crate) fn settled_after(rows: &[PlainRow], task: TaskId) -> TaskSet
     requires row { task.0 < length rows.now }
     requires limit { length rows.now ≤ MOST_TASKS }
     ensures { (x : ℕ) → mem x result ≡ (nat_eq x task.0 || mem x (row rows.now task.0).past) }

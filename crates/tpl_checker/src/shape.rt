@@ -8,7 +8,7 @@ ghost use Rattle.tpl_model.specs.Prelude.{mem};
 use crate::rows::within;
 use tpl_graph::{Claim, Graph};
 use tpl_model::{CertFault, TaskId, TaskSet};
-use tpl_trees::{Node, Row, Tree};
+use tpl_trees::{Node, PlainRow, Tree};
 
 /// Each leaf of the tree has one row for each task, and each id in it is the graph's.
 pub(crate) fn fits(graph: &Graph, tree: &Tree) -> bool
@@ -31,7 +31,7 @@ pub(crate) fn fits(graph: &Graph, tree: &Tree) -> bool
 }
 
 /// Each id in the rows is the graph's.
-pub(crate) fn rows_fit(graph: &Graph, rows: &[Row]) -> bool
+pub(crate) fn rows_fit(graph: &Graph, rows: &[PlainRow]) -> bool
     ensures { result ≡ rows_fit graph.now.graph rows.now }
 {
     let all = all_tasks(graph);
@@ -44,7 +44,7 @@ pub(crate) fn rows_fit(graph: &Graph, rows: &[Row]) -> bool
 }
 
 /// Each id in the row is the graph's, whose tasks are all of these.
-pub fn row_fits(graph: &Graph, row: &Row, all: &TaskSet) -> bool
+pub fn row_fits(graph: &Graph, row: &PlainRow, all: &TaskSet) -> bool
     requires { (x : ℕ) → mem x all.now ≡ nat_lt x (length graph.now.graph.tasks) }
     ensures { result ≡ (has_tasks graph.now.graph row.now.before
         && (has_tasks graph.now.graph row.now.past && has_tasks graph.now.graph row.now.chain)) }

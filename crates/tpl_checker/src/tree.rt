@@ -12,7 +12,7 @@ use crate::last::{LastLeaf, bodies_of};
 use crate::leaf::{LeafFault, leaf_fault};
 use tpl_graph::Graph;
 use tpl_model::{CertFault, Final, Property};
-use tpl_trees::{Node, Row, Tree};
+use tpl_trees::{Node, PlainRow, Tree};
 
 /// The first leaf of the tree that fails, of which the first has the number `first`. Where none
 /// does, the number after the last one.
@@ -83,7 +83,7 @@ fn leaf_at<'c>(
     assumed: &Assumptions,
     leaf: usize,
     last: &mut Option<LastLeaf<'c>>,
-    rows: &'c [Row],
+    rows: &'c [PlainRow],
 ) -> Result<usize, CertFault>
     requires tasks { TasksOf graph.now.graph property }
     requires below { AreBelow graph.now.graph below.now }

@@ -11,7 +11,7 @@ use crate::assumptions::Assumptions;
 use crate::rows::{allowed, row};
 use tpl_graph::{Graph, Role};
 use tpl_model::{Final, Finals, TaskId, View};
-use tpl_trees::Row;
+use tpl_trees::PlainRow;
 
 /// No way to end.
 pub(crate) const NO_END: Finals = Finals {
@@ -21,7 +21,7 @@ pub(crate) const NO_END: Finals = Finals {
 };
 
 /// What a task's body sees in the runs of a leaf. How its subject may have ended is read off the rows.
-pub(crate) fn view(graph: &Graph, assumed: &Assumptions, rows: &[Row], task: TaskId) -> View
+pub(crate) fn view(graph: &Graph, assumed: &Assumptions, rows: &[PlainRow], task: TaskId) -> View
     requires task { is_task graph.now.graph task.0 }
     requires rows { length rows.now ≡ length graph.now.graph.tasks }
     ensures { known result ≡ view graph.now.graph (assumed_of assumed.now) rows.now task.0 }
@@ -55,7 +55,7 @@ pub(crate) fn faulted_view(graph: &Graph, assumed: &Assumptions, reader: TaskId)
 
 /// How the subject of a continuation ends: its antecedent in the ways in which the options let the
 /// continuation run, or one of the arguments of an antecedent that is a WhenAny task.
-pub(crate) fn subject(graph: &Graph, rows: &[Row], task: TaskId) -> Finals
+pub(crate) fn subject(graph: &Graph, rows: &[PlainRow], task: TaskId) -> Finals
     requires task { is_task graph.now.graph task.0 }
     requires rows { length rows.now ≡ length graph.now.graph.tasks }
     ensures { (f : Final) → has result f ≡ subject_set graph.now.graph rows.now task.0
@@ -71,7 +71,7 @@ pub(crate) fn subject(graph: &Graph, rows: &[Row], task: TaskId) -> Finals
 }
 
 /// How one of the tasks ends.
-pub(crate) fn ends_of_one(rows: &[Row], tasks: &[TaskId]) -> Finals
+pub(crate) fn ends_of_one(rows: &[PlainRow], tasks: &[TaskId]) -> Finals
     requires { AreTasks (length rows.now) tasks.now }
     ensures { (f : Final) → has result f ≡ one_ends (map task_number tasks.now) rows.now f }
 {

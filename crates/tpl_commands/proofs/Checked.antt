@@ -6,7 +6,6 @@ use Rattle.tpl_model.specs.declared.fault.CertFault.{CertFault}
 use Rattle.tpl_model.specs.declared.fault.CertFault.TheVariants.{Shape, NotClosed, ClaimNot}
 use Rattle.tpl_model.specs.Certificate.{Tree, Accepts}
 use Rattle.tpl_model.specs.Claims.{Claim}
-use Rattle.tpl_model.specs.WiderRules.{WideTree, as_wide_tree}
 use Rattle.tpl_laws.specs.WideTrees.{WidelyAccepts}
 use Rattle.tpl_model.specs.declared.rule_set.RuleSet.TheVariants.{Narrow, Wide}
 use Rattle.tpl_laws.specs.ByRules.{PlainIsRefused}
@@ -26,7 +25,7 @@ names_plain g claims trees (Shape claim) first = tt
 names_plain g claims trees (NotClosed claim leaf t rule) first = names_task g claims trees claim leaf t rule first
 names_plain g claims trees (ClaimNot claim leaf) first = tt
 
-names_wide : (g : TaskGraph) (claims : List Claim) (trees : List WideTree) (fault : CertFault) → IsFirstWideFault g claims trees fault → NamesTask g fault
+names_wide : (g : TaskGraph) (claims : List Claim) (trees : List Tree) (fault : CertFault) → IsFirstWideFault g claims trees fault → NamesTask g fault
 names_wide g claims trees (Shape claim) first = tt
 names_wide g claims trees (NotClosed claim leaf t rule) first = wide_names_task g claims trees claim leaf t rule first
 names_wide g claims trees (ClaimNot claim leaf) first = tt
@@ -52,10 +51,10 @@ wide_trees d rules = rw rules refl
 
 -- ---- trees that may speak of tokens and of winners
 
-pub accepted_with_tokens : (doc : DocumentValue) (trees : List WideTree) → rules_of doc ≡ Wide → doc.certificate ≡ trees → WidelyAccepts doc.graph.graph doc.claims trees → ClaimsHold doc → IsAccepted doc
+pub accepted_with_tokens : (doc : DocumentValue) (trees : List Tree) → rules_of doc ≡ Wide → doc.certificate ≡ trees → WidelyAccepts doc.graph.graph doc.claims trees → ClaimsHold doc → IsAccepted doc
 accepted_with_tokens doc trees rules same accepted hold = record { accepted = rw (rules, same) accepted; hold = hold }
 
-pub refused_with_tokens : (doc : DocumentValue) (trees : List WideTree) (fault : CertFault) → rules_of doc ≡ Wide → doc.certificate ≡ trees → IsFirstWideFault doc.graph.graph doc.claims trees fault
+pub refused_with_tokens : (doc : DocumentValue) (trees : List Tree) (fault : CertFault) → rules_of doc ≡ Wide → doc.certificate ≡ trees → IsFirstWideFault doc.graph.graph doc.claims trees fault
     → (WidelyAccepts doc.graph.graph doc.claims trees → ⊥) → IsRefused doc fault × NamesTask doc.graph.graph fault
 refused_with_tokens doc trees fault rules same first not_accepted =
     (record { first = rw (rules, same) first; not_accepted = rw (rules, same) not_accepted }, names_wide doc.graph.graph doc.claims trees fault first)

@@ -5,7 +5,6 @@ use Rattle.tpl_model.specs.declared.finals.Finals.{Finals}
 use Rattle.tpl_model.specs.declared.rule_set.RuleSet.TheVariants.{Narrow, Wide}
 use Rattle.tpl_model.specs.Claims.{Claim}
 use Rattle.tpl_model.specs.Certificate.{Tree}
-use Rattle.tpl_model.specs.WiderRules.{WideTree, as_wide_tree}
 use Rattle.tpl_laws.specs.ByRules.{written_by}
 use Rattle.tpl_laws.specs.WideTrees.{all_written}
 use Rattle.tpl_draw.specs.Endings.{endings}
@@ -25,7 +24,7 @@ plain_endings d trees n (Ok found) proof rules same tasks is = record {
 }
 plain_endings d trees n (Err e) proof rules same tasks is = tt
 
-pub wide_endings : (d : Document) (claims : List Claim) (trees : List WideTree) (r : Result (Vec Finals Global) AllocError) → HasProof (doc_of d) → Wide ≡ rules_of (doc_of d) → claims ≡ (doc_of d).claims → trees ≡ d.wide
+pub wide_endings : (d : Document) (claims : List Claim) (trees : List Tree) (r : Result (Vec Finals Global) AllocError) → HasProof (doc_of d) → Wide ≡ rules_of (doc_of d) → claims ≡ (doc_of d).claims → trees ≡ d.wide
     → IfOk r (λ found. found.items ≡ endings (all_written (doc_of d).graph.graph claims trees) (length (doc_of d).graph.graph.tasks)) → IfOk r (λ ends. AreEndings (doc_of d) ends.items)
 wide_endings d claims trees (Ok found) proof rules asked same is = record {
   accepted = λ p.

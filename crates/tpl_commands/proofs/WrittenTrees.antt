@@ -10,8 +10,8 @@ use Rattle.tpl_model.specs.declared.ids.TaskId.{TaskId}
 use Rattle.tpl_model.specs.declared.claim.Property.{Property}
 use Rattle.tpl_model.specs.declared.rule_set.RuleSet.{RuleSet}
 use Rattle.tpl_model.specs.declared.rule_set.RuleSet.TheVariants.{Narrow, Wide}
-use Rattle.tpl_model.specs.Certificate.{AllTasks, IdsOfRows}
-use Rattle.tpl_model.specs.WiderRules.{WideRow, plain, WideAssumed, AllTokens, TokensOfRows, WideTree, OnInput, OnEnd, OnWinner, WideLeaf, LeastLeaf, MayHaveWinner, widely_assumed, as_wide_tree}
+use Rattle.tpl_model.specs.Certificate.{AllTasks, IdsOfRows, Row, plain, Tree, OnInput, OnEnd, OnWinner, RowsLeaf, LeastLeaf}
+use Rattle.tpl_model.specs.WiderRules.{WideAssumed, AllTokens, TokensOfRows, MayHaveWinner, widely_assumed}
 use Rattle.tpl_model.proofs.MemberLemmas.{mem_split}
 use Rattle.tpl_model.proofs.Truths.{true_false}
 use Rattle.tpl_laws.specs.ByRules.{AcceptsBy}
@@ -41,7 +41,7 @@ module _ (n : Names) (g : TaskGraph) (valid : IsGraph g) (tasks : length n.tasks
   tokens_known [] all = refl
   tokens_known (k ∷ ks) all = rw (token_known k all.0, tokens_known ks all.1) refl
 
-  rows_known : (rows : List WideRow) → IdsOfRows g (plain rows) → TokensOfRows g rows → list_all (has_row_ids n) rows ≡ true
+  rows_known : (rows : List Row) → IdsOfRows g (plain rows) → TokensOfRows g rows → list_all (has_row_ids n) rows ≡ true
   rows_known [] ids ks = refl
   rows_known (r ∷ rows) ids ks =
       rw (tokens_known r.asked ks.0, tokens_known r.asks ks.1, tasks_known r.row.before ids.0, tasks_known r.row.past ids.1, tasks_known r.row.chain ids.2, rows_known rows ids.3 ks.2) refl
@@ -69,16 +69,16 @@ module _ (n : Names) (g : TaskGraph) (valid : IsGraph g) (tasks : length n.tasks
         | inr le ↦ absurd (subst (λ (k : TaskKind). MayHaveWinner k x) (no_task g t le).0 m)
       ]
 
-  tree_known : (p : Property TaskId) (t : WideTree) (l : WideAssumed) → AcceptsWideTree g p l t → has_ids n t ≡ true
+  tree_known : (p : Property TaskId) (t : Tree) (l : WideAssumed) → AcceptsWideTree g p l t → has_ids n t ≡ true
   tree_known p (OnInput i a b) l accepted = rw (input_known i accepted.0, tree_known p a _ accepted.1, tree_known p b _ accepted.2) refl
   tree_known p (OnEnd t a b c) l accepted = rw (task_known t accepted.0, tree_known p a _ accepted.1, tree_known p b _ accepted.2, tree_known p c _ accepted.3) refl
   tree_known p (OnWinner t x a b) l accepted =
       let known = winner_known t x accepted.0 in
       rw (known.0, known.1, tree_known p a _ accepted.1, tree_known p b _ accepted.2) refl
-  tree_known p (WideLeaf rows) l accepted = rows_known rows accepted.1 accepted.2
+  tree_known p (RowsLeaf rows) l accepted = rows_known rows accepted.1 accepted.2
   tree_known p LeastLeaf l accepted = refl
 
-  wide_known : (claims : List Claim) (trees : List WideTree) → WidelyAccepts g claims trees → list_all (has_ids n) trees ≡ true
+  wide_known : (claims : List Claim) (trees : List Tree) → WidelyAccepts g claims trees → list_all (has_ids n) trees ≡ true
   wide_known [] [] accepted = refl
   wide_known [] (t ∷ trees) accepted = absurd accepted
   wide_known (claim ∷ claims) [] accepted = absurd accepted
@@ -86,8 +86,8 @@ module _ (n : Names) (g : TaskGraph) (valid : IsGraph g) (tasks : length n.tasks
       rw (tree_known claim.body t (widely_assumed g claim) accepted.0, wide_known claims trees accepted.1) refl
 
 -- what the narrow rules accept, the wide ones do
-pub trees_known : TokensAcceptMore → (m : Named) → IsNamedGraph m → (rules : RuleSet) (claims : List Claim) (trees : List WideTree) → AcceptsBy rules m.graph claims trees → list_all (has_ids m.names) trees ≡ true
+pub trees_known : TokensAcceptMore → (m : Named) → IsNamedGraph m → (rules : RuleSet) (claims : List Claim) (trees : List Tree) → AcceptsBy rules m.graph claims trees → list_all (has_ids m.names) trees ≡ true
 trees_known more m law Narrow claims trees accepted =
-    subst (λ (ts : List WideTree). list_all (has_ids m.names) ts ≡ true) (sym accepted.1)
+    subst (λ (ts : List Tree). list_all (has_ids m.names) ts ≡ true) (sym accepted.1)
     (wide_known m.names m.graph law.graph law.tasks law.tokens law.inputs claims (map as_wide_tree accepted.0) (more m.graph claims accepted.0 accepted.2))
 trees_known more m law Wide claims trees accepted = wide_known m.names m.graph law.graph law.tasks law.tokens law.inputs claims trees accepted

@@ -9,14 +9,14 @@ ghost use Rattle.tpl_cert.specs.Prelude.{has_ids};
 ghost use Rattle.tpl_commands.specs.Prelude.{IsRead, proof_data, rules_for, trees_of};
 ghost use Rattle.tpl_graph.specs.Prelude.{Fits};
 ghost use Rattle.tpl_laws.specs.Prelude.{AcceptsBy};
-ghost use Rattle.tpl_trees.specs.Prelude.{IsWithinWideLimits, wide_height};
+ghost use Rattle.tpl_trees.specs.Prelude.{IsWithinLimits, height};
 
 use std::alloc::{AllocError, Global};
 use tpl_analyser::{Budget, Depth, Form, Gap, Watch, analyse_widely, analyse_within};
 use tpl_cert::{TreeToFault, trees_text, wide_trees_text};
 use tpl_graph::{Claim, Graph};
 use tpl_model::RuleSet;
-use tpl_trees::{Certificate, WideCertificate};
+use tpl_trees::{Certificate};
 
 /// A certificate of one of two sorts.
 #[derive(Drop)]
@@ -24,13 +24,13 @@ pub enum Proof {
     /// It says nothing of tokens and of winners, and is judged by the narrow rules.
     Plain(Certificate),
     /// It may speak of them, and is judged by the wide rules.
-    Wide(WideCertificate),
+    Wide(Certificate),
 }
 
 impl Proof {
     /// Each of its trees is within the limits.
     pub fn limits_law(&self)
-        ensures { All IsWithinWideLimits (trees_of self.now) }
+        ensures { All IsWithinLimits (trees_of self.now) }
     {
         match self {
             Proof::Plain(certificate) => certificate.limits_law(),
@@ -55,7 +55,7 @@ pub fn find_proof<W: Watch>(
     ensures rules { IfOk result (λ proof. rules_for proof ≡ rules) }
     ensures accepted { IfOk result (λ proof.
         AcceptsBy rules graph.now.graph claims.now (trees_of proof)) }
-    ensures splits { IfOk result (λ proof. All (λ tree. wide_height tree ≤ depth) (trees_of proof)) }
+    ensures splits { IfOk result (λ proof. All (λ tree. height tree ≤ depth) (trees_of proof)) }
     ensures form { IfOk result (λ proof. IsOfFormBy rules form claims.now (trees_of proof)) }
     ensures gap { IfErr result (IsGap rules graph.now.graph claims.now depth) }
 {

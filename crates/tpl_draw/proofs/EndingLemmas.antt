@@ -14,8 +14,8 @@ use Rattle.tpl_model.specs.declared.claim.Property.{Property}
 use Rattle.tpl_model.specs.Rules.{final, Run}
 use Rattle.tpl_model.specs.Valid.{IsGraph}
 use Rattle.tpl_model.specs.Claims.{Claim}
-use Rattle.tpl_model.specs.Certificate.{Row, row, Assumed, assumed_for, taken, with_input, with_end, Closed, Tree, SplitInput, SplitEnd, Leaf, AcceptsTree, Accepts}
-use Rattle.tpl_model.specs.WiderRules.{WideRow, plain, WideTree, OnInput, OnEnd, OnWinner, WideLeaf, LeastLeaf, as_wide, as_wide_tree, widely_assumed}
+use Rattle.tpl_model.specs.Certificate.{PlainRow, row, Assumed, assumed_for, taken, with_input, with_end, Closed, Tree, SplitInput, SplitEnd, Leaf, AcceptsTree, Accepts, Row, plain, OnInput, OnEnd, OnWinner, RowsLeaf, LeastLeaf}
+use Rattle.tpl_model.specs.WiderRules.{widely_assumed}
 use Rattle.tpl_laws.specs.WideTrees.{WidelyAccepts, all_written, written}
 use Rattle.tpl_laws.specs.LeastRows.{ends_where}
 use Rattle.tpl_laws.specs.Soundness.{HasLeaf, RowsAreTrue, SomeLeafAgrees}
@@ -24,11 +24,11 @@ use Rattle.tpl_laws.proofs.WideLaw.{plain_wide}
 use Rattle.tpl_draw.specs.Endings.{either, tree_ends, ends, IsSomeTaken, EndingsAreTrue}
 
 -- rows that say nothing of tokens say the same of their tasks
-pub narrow_row : (rows : List Row) (t : ℕ) → row (plain (as_wide rows)) t ≡ row rows t
+pub narrow_row : (rows : List PlainRow) (t : ℕ) → row (plain (as_wide rows)) t ≡ row rows t
 narrow_row rows t = ap (λ z. row z t) (plain_wide rows)
 
 -- each leaf of an accepted tree is closed
-leaf_closed : (g : TaskGraph) (p : Property TaskId) (l m : Assumed) (tree : Tree) (rows : List Row) → AcceptsTree g p l tree → HasLeaf l tree m rows → Closed g m rows
+leaf_closed : (g : TaskGraph) (p : Property TaskId) (l m : Assumed) (tree : Tree) (rows : List PlainRow) → AcceptsTree g p l tree → HasLeaf l tree m rows → Closed g m rows
 leaf_closed g p l m (SplitInput i a b) rows acc (inl w) = leaf_closed g p (with_input l i true) m a rows acc.1 w
 leaf_closed g p l m (SplitInput i a b) rows acc (inr w) = leaf_closed g p (with_input l i false) m b rows acc.2 w
 leaf_closed g p l m (SplitEnd t a b c) rows acc (inl w) = leaf_closed g p (with_end l t RanToCompletion) m a rows acc.1 w
@@ -38,7 +38,7 @@ leaf_closed g p l m (Leaf leaf) rows acc w =
     subst (λ z. Closed g z rows) w.0 (subst (λ z. Closed g l z) w.1 acc.2)
 
 -- the rows of a leaf are those of the same leaf of the tree as one that may speak of tokens
-leaf_rows : (l m : Assumed) (tree : Tree) (rows : List Row) → HasLeaf l tree m rows → HasRows (as_wide_tree tree) (as_wide rows)
+leaf_rows : (l m : Assumed) (tree : Tree) (rows : List PlainRow) → HasLeaf l tree m rows → HasRows (as_wide_tree tree) (as_wide rows)
 leaf_rows l m (SplitInput i a b) rows (inl w) = inl (leaf_rows (with_input l i true) m a rows w)
 leaf_rows l m (SplitInput i a b) rows (inr w) = inr (leaf_rows (with_input l i false) m b rows w)
 leaf_rows l m (SplitEnd t a b c) rows (inl w) = inl (leaf_rows (with_end l t RanToCompletion) m a rows w)
@@ -64,7 +64,7 @@ in_each Canceled = refl
 in_each Faulted = refl
 
 -- what a leaf's row says, its tree says
-rows_in_tree : (tree : WideTree) (rows : List WideRow) (t : ℕ) (f : Final) → HasRows tree rows → has (row (plain rows) t).ends f ≡ true → has (tree_ends tree t) f ≡ true
+rows_in_tree : (tree : Tree) (rows : List Row) (t : ℕ) (f : Final) → HasRows tree rows → has (row (plain rows) t).ends f ≡ true → has (tree_ends tree t) f ≡ true
 rows_in_tree (OnInput i a b) rows t f (inl w) e = in_first (tree_ends a t) (tree_ends b t) f (rows_in_tree a rows t f w e)
 rows_in_tree (OnInput i a b) rows t f (inr w) e = in_second (tree_ends a t) (tree_ends b t) f (rows_in_tree b rows t f w e)
 rows_in_tree (OnEnd s a b c) rows t f (inl w) e =
@@ -77,11 +77,11 @@ rows_in_tree (OnEnd s a b c) rows t f (inr (inr w)) e =
     (in_second (tree_ends b t) (tree_ends c t) f (rows_in_tree c rows t f w e))
 rows_in_tree (OnWinner n x a b) rows t f (inl w) e = in_first (tree_ends a t) (tree_ends b t) f (rows_in_tree a rows t f w e)
 rows_in_tree (OnWinner n x a b) rows t f (inr w) e = in_second (tree_ends a t) (tree_ends b t) f (rows_in_tree b rows t f w e)
-rows_in_tree (WideLeaf leaf) rows t f w e = subst (λ z. has (row (plain z) t).ends f ≡ true) (sym w) e
+rows_in_tree (RowsLeaf leaf) rows t f w e = subst (λ z. has (row (plain z) t).ends f ≡ true) (sym w) e
 rows_in_tree LeastLeaf rows t f w e = in_each f
 
 -- a task ends as the trees say in the runs of which what may be taken as given for one of the claims is true
-abbrev EndsAre : RuleSet → TaskGraph → List Claim → List WideTree → Type 0
+abbrev EndsAre : RuleSet → TaskGraph → List Claim → List Tree → Type 0
 EndsAre rules g claims trees =
     (v : List Bool) (h : List Event) → Run g v h → IsSomeTaken rules g v h claims
     → (t : ℕ) (f : Final) → final g v h t ≡ Some f → has (ends trees t) f ≡ true
@@ -103,7 +103,7 @@ narrow_ends rows_true some_leaf g (claim ∷ claims) (tree ∷ trees) valid acc 
     (narrow_ends rows_true some_leaf g claims trees valid acc.1 v h run given t f e)
 
 -- by the wide ones
-wide_ends : SomeWideLeafIsTrue → (g : TaskGraph) (claims : List Claim) (trees : List WideTree) → IsGraph g → WidelyAccepts g claims trees → EndsAre Wide g claims (all_written g claims trees)
+wide_ends : SomeWideLeafIsTrue → (g : TaskGraph) (claims : List Claim) (trees : List Tree) → IsGraph g → WidelyAccepts g claims trees → EndsAre Wide g claims (all_written g claims trees)
 wide_ends some_leaf g [] [] valid acc v h run given t f e = absurd given
 wide_ends some_leaf g (claim ∷ claims) [] valid acc v h run given t f e = absurd acc
 wide_ends some_leaf g [] (tree ∷ trees) valid acc v h run given t f e = absurd acc

@@ -2,11 +2,11 @@
 
 ghost use Rattle.std.specs.Prelude.{◌≡◌, IfOk, map};
 ghost use Rattle.tpl_draw.specs.Prelude.{EndingsAreTrue, either, endings, ends, no_ends, tree_ends};
-ghost use Rattle.tpl_model.specs.Prelude.{as_wide_tree, row};
+ghost use Rattle.tpl_model.specs.Prelude.{row};
 
 use std::alloc::{AllocError, Global};
 use tpl_model::Finals;
-use tpl_trees::{Node, Row, Tree};
+use tpl_trees::{Node, PlainRow, Tree};
 
 /// No way to end.
 pub(crate) fn no_ends() -> Finals
@@ -31,7 +31,7 @@ pub(crate) fn either(one: Finals, other: Finals) -> Finals
 }
 
 /// How a task may end by its row; in no way past the last row.
-fn leaf_ends(rows: &[Row], task: usize) -> Finals
+fn leaf_ends(rows: &[PlainRow], task: usize) -> Finals
     ensures { result ≡ (row rows.now task).ends }
 {
     if task < rows.len() {

@@ -15,11 +15,11 @@ use tpl_checker::{Assumptions, Below, assumed_for};
 use tpl_graph::{Claim, Graph};
 use tpl_model::{Final, Finals, RuleSet};
 use tpl_paths::TokenSet;
-use tpl_trees::{WideNode, WideRow, WideTree};
+use tpl_trees::{Node, Row, Tree};
 use tpl_wide::{Check, WinnerSplit, links, rows_left_out, with_split};
 
 /// How a task may end by its row; in no way past the last row.
-fn leaf_ends(rows: &[WideRow], task: usize) -> Finals
+fn leaf_ends(rows: &[Row], task: usize) -> Finals
     ensures { result ≡ (row (plain rows.now) task).ends }
 {
     if task < rows.len() {
@@ -32,7 +32,7 @@ fn leaf_ends(rows: &[WideRow], task: usize) -> Finals
 /// How each task may end by the rows of a leaf, or in these other ways.
 fn ends_in_rows(
     alloc: Global,
-    rows: &[WideRow],
+    rows: &[Row],
     others: &[Finals],
 ) -> Result<Vec<Finals>, AllocError>
     ensures { IfOk result (λ found.
@@ -51,7 +51,7 @@ fn ends_in_tree(
     check: &Check<'_>,
     assumed: &Assumptions,
     winners: &[WinnerSplit],
-    tree: &WideTree,
+    tree: &Tree,
     others: &[Finals],
 ) -> Result<Vec<Finals>, AllocError>
     requires check { IsCheck check.now }
@@ -63,13 +63,13 @@ fn ends_in_tree(
 {
     check.graph().valid_law();
     match tree.node() {
-        WideNode::SplitInput(input, on_true, on_false) => {
+        Node::SplitInput(input, on_true, on_false) => {
             let yes = assumed.with_input(*input, true);
             let no = assumed.with_input(*input, false);
             let found = ends_in_tree(alloc, check, &no, winners, on_false, others)?;
             ends_in_tree(alloc, check, &yes, winners, on_true, found.as_slice())
         }
-        WideNode::SplitEnd(task, ran, canceled, faulted) => {
+        Node::SplitEnd(task, ran, canceled, faulted) => {
             let on_ran = assumed.with_end(*task, Final::RanToCompletion);
             let on_canceled = assumed.with_end(*task, Final::Canceled);
             let on_faulted = assumed.with_end(*task, Final::Faulted);
@@ -84,7 +84,7 @@ fn ends_in_tree(
             )?;
             ends_in_tree(alloc, check, &on_ran, winners, ran, found.as_slice())
         }
-        WideNode::SplitWinner(task, argument, on_yes, on_no) => {
+        Node::SplitWinner(task, argument, on_yes, on_no) => {
             let yes = with_split(alloc, winners, *task, *argument, true)?;
             let no = with_split(alloc, winners, *task, *argument, false)?;
             let found = ends_in_tree(alloc, check, assumed, no.as_slice(), on_no, others)?;
@@ -97,8 +97,8 @@ fn ends_in_tree(
                 found.as_slice(),
             )
         }
-        WideNode::Leaf(rows) => ends_in_rows(alloc, rows, others),
-        WideNode::Least => {
+        Node::Leaf(rows) => ends_in_rows(alloc, rows, others),
+        Node::Least => {
             let rows = rows_left_out(alloc, check, assumed, winners)?;
             ends_in_rows(alloc, rows.as_slice(), others)
         }
@@ -112,7 +112,7 @@ fn ends_in_trees(
     below: &Below,
     linked: &[TokenSet],
     claims: &[Claim],
-    trees: &[WideTree],
+    trees: &[Tree],
 ) -> Result<Vec<Finals>, AllocError>
     requires below { AreBelow graph.now.graph below.now }
     requires linked { AreLinks graph.now.graph linked.now }
@@ -138,7 +138,7 @@ pub fn wide_endings(
     alloc: Global,
     graph: &Graph,
     claims: &[Claim],
-    trees: &[WideTree],
+    trees: &[Tree],
 ) -> Result<Vec<Finals>, AllocError>
     requires claims { All (Fits graph.now.graph) claims.now }
     requires accepted { WidelyAccepts graph.now.graph claims.now trees.now }

@@ -10,8 +10,8 @@ use Rattle.tpl_model.specs.Knowledge.{IsSettled, Knowledge, as_facts, meet, when
 use Rattle.tpl_model.specs.Recursion.{another}
 use Rattle.tpl_model.specs.declared.ids.TaskId.{TaskId}
 use Rattle.tpl_model.specs.declared.claim.Property.{Property}
-use Rattle.tpl_model.specs.Certificate.{row, IsBelow, child, deeper, may_end}
-use Rattle.tpl_model.specs.WiderRules.{WideRow, plain, begins_with, ends_with, asked_of, wide_view, known_at_start, may_run, ByBody, IsWay, WidelyClosed, WidelyProves, WideAssumed, WideTree, OnInput, OnEnd, OnWinner, WideLeaf, LeastLeaf, narrowed, end_split, widely_assumed}
+use Rattle.tpl_model.specs.Certificate.{row, IsBelow, child, deeper, may_end, Row, plain, Tree, OnInput, OnEnd, OnWinner, RowsLeaf, LeastLeaf}
+use Rattle.tpl_model.specs.WiderRules.{begins_with, ends_with, asked_of, wide_view, known_at_start, may_run, ByBody, IsWay, WidelyClosed, WidelyProves, WideAssumed, narrowed, end_split, widely_assumed}
 use Rattle.tpl_laws.specs.LeastRows.{least_rows}
 use Rattle.tpl_laws.specs.WideTrees.{AcceptsWideTree, WidelyAccepts}
 use Rattle.tpl_laws.specs.WideVerdict.{WideVerdictIsRight}
@@ -87,7 +87,7 @@ at_start_known true false k e = refl
 at_start_known false b k e = true_false (sym e)
 
 -- then a closed leaf doesn't prove the claim
-module _ (l : WideAssumed) (rows : List WideRow) (o : IsOpen l) (closed : WidelyClosed races l rows) where
+module _ (l : WideAssumed) (rows : List Row) (o : IsOpen l) (closed : WidelyClosed races l rows) where
   abbrev at_begin : ℕ → Knowledge
   at_begin t = record { requested = asked_of rows t; later = as_facts (asked_of rows t) }
 
@@ -151,15 +151,15 @@ module _ (l : WideAssumed) (rows : List WideRow) (o : IsOpen l) (closed : Widely
   proves_not (inl n) = true_false (sym child_runs ∙ n)
   proves_not (inr m) = let i : 4 < 5 = omega arith in fourth_before ((closed 4 i).begin child_runs (IsSettled 1) m 3 refl)
 
-not_accepted : (l : WideAssumed) (tree : WideTree) → IsOpen l → NoWinners tree → AcceptsWideTree races says l tree → ⊥
+not_accepted : (l : WideAssumed) (tree : Tree) → IsOpen l → NoWinners tree → AcceptsWideTree races says l tree → ⊥
 not_accepted l (OnInput i a b) o none acc = let lt : i < 0 = acc.0 in absurd (omega arith)
 not_accepted l (OnEnd t a b c) o none acc =
     by_bound t ⊥
     (λ e. not_accepted (end_split l t RanToCompletion) a (end_open l t RanToCompletion e o) none.0 acc.1)
     (λ e. not_accepted (end_split l t Faulted) c (end_open l t Faulted e o) none.2 acc.3)
 not_accepted l (OnWinner n x a b) o none acc = absurd none
-not_accepted l (WideLeaf rows) o none acc = proves_not (narrowed races l) rows (narrowed_open l o) acc.3.0 acc.3.1
+not_accepted l (RowsLeaf rows) o none acc = proves_not (narrowed races l) rows (narrowed_open l o) acc.3.0 acc.3.1
 not_accepted l LeastLeaf o none acc = proves_not (narrowed races l) (least_rows races (narrowed races l) says) (narrowed_open l o) acc.0 acc.1
 
-pub needed : (tree : WideTree) → NoWinners tree → WidelyAccepts races (claim says ∷ []) (tree ∷ []) → ⊥
+pub needed : (tree : Tree) → NoWinners tree → WidelyAccepts races (claim says ∷ []) (tree ∷ []) → ⊥
 needed tree none acc = not_accepted assumes tree (record { first = refl; second = refl; third = refl; given = λ t f. refl; wins = λ n x. refl }) none acc.0

@@ -11,7 +11,7 @@ use Rattle.tpl_model.specs.declared.claim.Given.{Given}
 use Rattle.tpl_model.specs.declared.ids.TaskId.{TaskId}
 use Rattle.tpl_model.specs.declared.claim.Property.{Property}
 use Rattle.tpl_model.specs.Claims.{Claim}
-use Rattle.tpl_model.specs.Certificate.{Row, Tree, Leaf}
+use Rattle.tpl_model.specs.Certificate.{PlainRow, Tree, Leaf}
 use Rattle.tpl_examples.specs.Words.{bare, continues, ran, canceled, faulted, with_options, throwing, claim, claim_given}
 
 -- tasks with option words, and a graph with tokens and a number of inputs
@@ -41,16 +41,16 @@ abbrev pub any_end : Finals
 any_end = either ran_or_canceled faulted
 
 -- a row that runs, with what is before and past it and its chain, and one that doesn't run, with what is past it
-abbrev pub runs : Finals → List ℕ → List ℕ → List ℕ → Row
+abbrev pub runs : Finals → List ℕ → List ℕ → List ℕ → PlainRow
 runs ends before past chain = record { ends = ends; runs = true; before = before; past = past; chain = chain }
 
-abbrev pub ends : Finals → Row
+abbrev pub ends : Finals → PlainRow
 ends f = runs f [] [] []
 
-abbrev pub behind : Finals → List ℕ → Row
+abbrev pub behind : Finals → List ℕ → PlainRow
 behind ends past = record { ends = ends; runs = false; before = []; past = past; chain = [] }
 
-abbrev pub not_run : Finals → Row
+abbrev pub not_run : Finals → PlainRow
 not_run ends = behind ends []
 
 -- one claim, and what is given for it
@@ -65,7 +65,7 @@ abbrev pub not_closed : ℕ → ℕ → ℕ → Rule → CertFault
 not_closed claim leaf t rule = NotClosed claim leaf (record { 0 = t }) rule
 
 -- a certificate of one tree, which is one leaf with these rows
-abbrev pub leaf : List Row → List Tree
+abbrev pub leaf : List PlainRow → List Tree
 leaf rows = Leaf rows ∷ []
 
 -- bodies of one statement; the last one is stuck where its token is never requested, since it requests it

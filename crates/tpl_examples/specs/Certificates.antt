@@ -7,7 +7,7 @@ use Rattle.tpl_model.specs.declared.fault.Rule.TheVariants.{K1, K2, K3, K4, K6}
 use Rattle.tpl_model.specs.declared.fault.CertFault.TheVariants.{Shape, ClaimNot}
 use Rattle.tpl_model.specs.declared.claim.Given.{Given}
 use Rattle.tpl_model.specs.Claims.{Claim}
-use Rattle.tpl_model.specs.Certificate.{Row, Tree, SplitInput, SplitEnd, Leaf}
+use Rattle.tpl_model.specs.Certificate.{PlainRow, Tree, SplitInput, SplitEnd, Leaf}
 use Rattle.tpl_laws.specs.Verdict.{verdict}
 use Rattle.tpl_examples.specs.Words.{root, when_all, when_any, with_token, with_options, ran, canceled, faulted, ends_in, begins_after, is_observed, exclude, given_input, given_quiet, returns}
 use Rattle.tpl_examples.specs.CertificateWords.{child_with, continuing, graph_with, nothing, ran_or_canceled, ran_or_faulted, any_end, runs, ends, not_run, one_claim, one_claim_given, not_closed, leaf, throws, observes}
@@ -61,7 +61,7 @@ one_of_two = graph_with [] 0 (root (Work 0 true ⨾ Nothing) ∷ continuing 0 re
 abbrev pub excludes : List Claim
 excludes = one_claim (exclude 1 2)
 
-abbrev pub by_end : List Row → Tree
+abbrev pub by_end : List PlainRow → Tree
 by_end if_canceled =
     SplitEnd 0 (Leaf (ends ran ∷ not_run canceled ∷ ends ran ∷ [])) (Leaf if_canceled) (Leaf (ends faulted ∷ ends ran ∷ not_run canceled ∷ []))
 

@@ -1,5 +1,4 @@
 -- Worked certificates for what version 3 adds: a case of each rule that is accepted, and ones that aren't.
-use Rattle.tpl_model.specs.WiderRules.{as_wide_tree}
 use Rattle.tpl_laws.specs.WideVerdict.{wide_verdict}
 use Rattle.std.specs.Prelude.{◌≡◌, ℕ, true, false, Ok, Err, Result, List, [], ◌∷◌, map}
 use Rattle.tpl_model.specs.declared.finals.Final.TheVariants.{Canceled}
@@ -12,24 +11,24 @@ use Rattle.tpl_model.specs.declared.fault.CertFault.TheVariants.{ClaimNot}
 use Rattle.tpl_model.specs.declared.claim.Given.{Given}
 use Rattle.tpl_model.specs.declared.ids.TaskId.{TaskId}
 use Rattle.tpl_model.specs.declared.claim.Property.{Property}
-use Rattle.tpl_model.specs.Certificate.{Row}
+use Rattle.tpl_model.specs.Certificate.{PlainRow}
 use Rattle.tpl_laws.specs.Verdict.{verdict}
 use Rattle.tpl_examples.specs.Words.{request, drop_outside, root, when_all, when_any, with_token, ran, canceled, faulted, ends_in, begins_after, is_observed, never_begins, exclude, must_run, given_quiet, given_end, given_success, returns}
 use Rattle.tpl_examples.specs.Stories.{Story, the_end, ◌⇒◌, ◌&◌, ended}
 use Rattle.tpl_examples.specs.CertificateWords.{child_with, continuing, graph_with, nothing, ran_or_canceled, ran_or_faulted, any_end, runs, ends, not_run, one_claim_given, not_closed, leaf, throws, observes, stuck}
 
 -- the verdict on one claim by the wide rules, and by the narrow ones
-abbrev pub widely : TaskGraph → List Given → Property TaskId → List Row → Result (Unit {0}) CertFault
+abbrev pub widely : TaskGraph → List Given → Property TaskId → List PlainRow → Result (Unit {0}) CertFault
 widely g facts says rows = wide_verdict g (one_claim_given facts says) (map as_wide_tree (leaf rows))
 
-abbrev pub narrowly : TaskGraph → List Given → Property TaskId → List Row → Result (Unit {0}) CertFault
+abbrev pub narrowly : TaskGraph → List Given → Property TaskId → List PlainRow → Result (Unit {0}) CertFault
 narrowly g facts says rows = verdict g (one_claim_given facts says) (leaf rows)
 
 -- A, then B, then C, both with the token k and j: where C begins, its token isn't requested, so B wasn't canceled by it
 abbrev pub in_a_row : ℕ → ℕ → TaskGraph
 in_a_row k j = graph_with (Plain ∷ Plain ∷ []) 0 (root returns ∷ with_token k (continuing 0 returns 0) ∷ with_token j (continuing 1 returns 0) ∷ [])
 
-abbrev pub in_a_row_rows : List Row
+abbrev pub in_a_row_rows : List PlainRow
 in_a_row_rows = ends ran ∷ runs ran (0 ∷ []) (0 ∷ []) [] ∷ runs ran (0 ∷ 1 ∷ []) [] [] ∷ []
 
 abbrev pub OwnTokenAfter : Type 0
@@ -94,7 +93,7 @@ NeverComplete =
 abbrev pub one_can_win : TaskGraph
 one_can_win = graph_with (Plain ∷ []) 0 (root stuck ∷ root returns ∷ when_any (0 ∷ 1 ∷ []) ∷ continuing 2 returns 0 ∷ [])
 
-abbrev pub one_can_win_rows : Finals → List Row
+abbrev pub one_can_win_rows : Finals → List PlainRow
 one_can_win_rows first = ends first ∷ ends ran ∷ runs ran [] (1 ∷ []) [] ∷ runs ran (1 ∷ 2 ∷ []) [] [] ∷ []
 
 abbrev pub OneCanWin : Type 0

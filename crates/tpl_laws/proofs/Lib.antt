@@ -40,5 +40,4 @@ pub mod FailureTold
 pub mod Wider
 pub mod WideLaw
 pub mod PlainSound
-pub mod Plainly
 pub mod Jobs

@@ -9,8 +9,8 @@ use Rattle.tpl_model.specs.Graph.{TaskGraph, TaskKind, Continues, WhenAny, kind,
 use Rattle.tpl_model.specs.declared.event.Event.{Event}
 use Rattle.tpl_model.specs.Facts.{Ending, final_in, winner_of, started, ending, subject_in, subject_of}
 use Rattle.tpl_model.specs.Rules.{final, label, seen, Complete, to_end}
-use Rattle.tpl_model.specs.Certificate.{row}
-use Rattle.tpl_model.specs.WiderRules.{WideRow, plain, WideAssumed, with_winners, kind_left, IsWonBy, ReadsWinner, WideLinks, WideChainRule}
+use Rattle.tpl_model.specs.Certificate.{row, Row, plain}
+use Rattle.tpl_model.specs.WiderRules.{WideAssumed, with_winners, kind_left, IsWonBy, ReadsWinner, WideLinks, WideChainRule}
 use Rattle.tpl_laws.proofs.Basics.{the_some}
 use Rattle.tpl_laws.proofs.Ready.{any_winner}
 use Rattle.tpl_laws.proofs.Settling.{filter_mem, other_task}
@@ -19,7 +19,7 @@ use Rattle.tpl_laws.proofs.Chains.{any_ends, taken_over}
 use Rattle.tpl_laws.proofs.Observing.{takes_task, seer_observes, reader_observes, thrown_seen}
 use Rattle.tpl_laws.proofs.WideRows.{WideNow}
 
-pub wide_upheld : (g : TaskGraph) (l : WideAssumed) (rows : List WideRow) (v : List Bool) (h : List Event) → WideNow g l rows v h → Upheld g l.assumed (plain rows) v h
+pub wide_upheld : (g : TaskGraph) (l : WideAssumed) (rows : List Row) (v : List Bool) (h : List Event) → WideNow g l rows v h → Upheld g l.assumed (plain rows) v h
 wide_upheld g l rows v h now = record {
   valid = now.valid;
   run = now.run;
@@ -33,7 +33,7 @@ always_ends : (may_win : ℕ → Bool) (y : ℕ) (k : TaskKind) (s : Bool) → I
 always_ends may_win y (WhenAny args) s w = refl
 always_ends may_win y k s w = absurd w
 
-module _ (g : TaskGraph) (l : WideAssumed) (rows : List WideRow) (v : List Bool) (h : List Event) (now : WideNow g l rows v h) (complete : Complete g v h) where
+module _ (g : TaskGraph) (l : WideAssumed) (rows : List Row) (v : List Bool) (h : List Event) (now : WideNow g l rows v h) (complete : Complete g v h) where
   -- and has, to completion, and y won it
   won : (n y : ℕ) → IsWonBy (kind_left g l n) y → (final g v h n ≡ Some RanToCompletion) × (subject_of (kind g n) n (ending g v h n) ≡ Some y)
   won n y w =

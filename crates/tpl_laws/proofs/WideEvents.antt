@@ -14,8 +14,8 @@ use Rattle.tpl_model.specs.declared.event.Event.{Event}
 use Rattle.tpl_model.specs.Facts.{Ending, final_in, ending, ended_at_once, all_final, first_ended, settled_as, winner_of}
 use Rattle.tpl_model.specs.Rules.{final, Allows, Run, can_settle, ended, some_ended}
 use Rattle.tpl_model.specs.Valid.{IsGraph}
-use Rattle.tpl_model.specs.Certificate.{row, end_left, AllMayEnd}
-use Rattle.tpl_model.specs.WiderRules.{WideRow, plain, ends_with, WideAssumed, WideAgrees, with_winners, asked_of, Way, way_final, IsWay, HoldsBy, SettledBelow, WideEndsRule, EndRule, WidelyClosed}
+use Rattle.tpl_model.specs.Certificate.{row, end_left, AllMayEnd, Row, plain}
+use Rattle.tpl_model.specs.WiderRules.{ends_with, WideAssumed, WideAgrees, with_winners, asked_of, Way, way_final, IsWay, HoldsBy, SettledBelow, WideEndsRule, EndRule, WidelyClosed}
 use Rattle.tpl_laws.specs.WiderSoundness.{FactHolds, BeginHolds}
 use Rattle.tpl_laws.proofs.Basics.{some_none, the_some, is_some_of}
 use Rattle.tpl_laws.proofs.Kept.{after, ending_new, ending_kept, final_of}
@@ -38,17 +38,17 @@ any_settled args en place who r c q = by_first (first_ended args en) refl (first
     by_first (Some s) e f = (s, sym (ap winner_of q) ∙ e, f.0, f.1)
 
 -- the rules for a task with a body, by its ways to end
-body_ends : (g : TaskGraph) (l : WideAssumed) (rows : List WideRow) (t : ℕ) (k : TaskKind) → IsBody k → WideEndsRule g l rows t (with_winners (l.wins t) k) → (way : Way) → IsWay g l rows t way → has (row (plain rows) t).ends (way_final way) ≡ true
+body_ends : (g : TaskGraph) (l : WideAssumed) (rows : List Row) (t : ℕ) (k : TaskKind) → IsBody k → WideEndsRule g l rows t (with_winners (l.wins t) k) → (way : Way) → IsWay g l rows t way → has (row (plain rows) t).ends (way_final way) ≡ true
 body_ends g l rows t (WhenAll args) b c = absurd b
 body_ends g l rows t (WhenAny args) b c = absurd b
 body_ends g l rows t k b c = c
 
-body_facts : (g : TaskGraph) (l : WideAssumed) (rows : List WideRow) (t : ℕ) (k : TaskKind) (fact : Fact) → IsBody k → EndRule g l rows t (with_winners (l.wins t) k) fact → SettledBelow g t fact ⊎ ((way : Way) → IsWay g l rows t way → HoldsBy g rows t k fact way)
+body_facts : (g : TaskGraph) (l : WideAssumed) (rows : List Row) (t : ℕ) (k : TaskKind) (fact : Fact) → IsBody k → EndRule g l rows t (with_winners (l.wins t) k) fact → SettledBelow g t fact ⊎ ((way : Way) → IsWay g l rows t way → HoldsBy g rows t k fact way)
 body_facts g l rows t (WhenAll args) fact b c = absurd b
 body_facts g l rows t (WhenAny args) fact b c = absurd b
 body_facts g l rows t k fact b c = c
 
-module _ (g : TaskGraph) (l : WideAssumed) (rows : List WideRow) (v : List Bool) (h : List Event) (now : WideNow g l rows v h) where
+module _ (g : TaskGraph) (l : WideAssumed) (rows : List Row) (v : List Bool) (h : List Event) (now : WideNow g l rows v h) where
   -- the way that a task with a body takes is one of its ways
   is_way : (t : ℕ) (f : Final) → end_left l.assumed t f ≡ true → (w : WayTaken g l rows v h t (kind g t) f) → IsWay g l rows t w.way
   is_way t f cut w = (subst (λ z. end_left l.assumed t z ≡ true) (sym w.final) cut, w.may)
@@ -150,7 +150,7 @@ module _ (g : TaskGraph) (l : WideAssumed) (rows : List WideRow) (v : List Bool)
     }
 
 -- before the first event only WhenAll of nothing has ended
-rows_at_first : (g : TaskGraph) (l : WideAssumed) (rows : List WideRow) (v : List Bool) → IsGraph g → WidelyClosed g l rows → WideAgrees g l v [] → WideTrue g l rows v []
+rows_at_first : (g : TaskGraph) (l : WideAssumed) (rows : List Row) (v : List Bool) → IsGraph g → WidelyClosed g l rows → WideAgrees g l v [] → WideTrue g l rows v []
 rows_at_first g l rows v valid closed ag = record {
   ends = λ t f e. first_end t f (kind g t) refl e (ag.agrees.ends t f e);
   runs = λ t b. true_false (sym b);
@@ -178,13 +178,13 @@ wide_before g v h l a x al ag = record {
 }
 
 -- the rows of a leaf that is closed by the wider rules are true of each run that agrees with it
-pub wide_now : (g : TaskGraph) (l : WideAssumed) (rows : List WideRow) (v : List Bool) (h : List Event) → IsGraph g → WidelyClosed g l rows → Run g v h → WideAgrees g l v h → WideNow g l rows v h
+pub wide_now : (g : TaskGraph) (l : WideAssumed) (rows : List Row) (v : List Bool) (h : List Event) → IsGraph g → WidelyClosed g l rows → Run g v h → WideAgrees g l v h → WideNow g l rows v h
 wide_now g l rows v [] valid closed run ag = record { valid = valid; closed = closed; run = run; agrees = ag; true_rows = rows_at_first g l rows v valid closed ag }
 wide_now g l rows v (e ∷ h) valid closed run ag =
     let now = wide_now g l rows v h valid closed run.0 (wide_before g v h l e.actor e.act run.1 ag) in
     record { valid = valid; closed = closed; run = run; agrees = ag; true_rows = event_keeps g l rows v h now e.actor e.act run.1 ag }
 
-pub begin_holds : (g : TaskGraph) (l : WideAssumed) (rows : List WideRow) (v : List Bool) (h : List Event) → IsGraph g → WidelyClosed g l rows → Run g v h → WideAgrees g l v h → BeginHolds g rows v h
+pub begin_holds : (g : TaskGraph) (l : WideAssumed) (rows : List Row) (v : List Bool) (h : List Event) → IsGraph g → WidelyClosed g l rows → Run g v h → WideAgrees g l v h → BeginHolds g rows v h
 begin_holds g l rows v [] valid closed run ag = tt
 begin_holds g l rows v (e ∷ h) valid closed run ag =
     let before = wide_before g v h l e.actor e.act run.1 ag in

@@ -10,16 +10,16 @@ use Rattle.tpl_model.specs.Valid.{IsGraph}
 use Rattle.tpl_model.specs.declared.ids.TaskId.{TaskId}
 use Rattle.tpl_model.specs.declared.claim.Property.{Property}
 use Rattle.tpl_model.specs.Claims.{Claim}
-use Rattle.tpl_model.specs.Certificate.{row, IdsOfRows}
-use Rattle.tpl_model.specs.WiderRules.{WideRow, plain, WideAssumed, kind_left, may_run, IsWidelyClosed, narrowed, AllTokens, TokensOfRows, WideTree, OnInput, OnEnd, OnWinner, WideLeaf, LeastLeaf, input_split, end_split, winner_split, MayHaveWinner, widely_assumed}
+use Rattle.tpl_model.specs.Certificate.{row, IdsOfRows, Row, plain, Tree, OnInput, OnEnd, OnWinner, RowsLeaf, LeastLeaf}
+use Rattle.tpl_model.specs.WiderRules.{WideAssumed, kind_left, may_run, IsWidelyClosed, narrowed, AllTokens, TokensOfRows, input_split, end_split, winner_split, MayHaveWinner, widely_assumed}
 use Rattle.tpl_laws.specs.WideTrees.{AcceptsWideTree, WidelyAccepts}
 use Rattle.tpl_model.specs.declared.fault.Rule.{Rule}
 use Rattle.tpl_model.specs.declared.fault.CertFault.TheVariants.{NotClosed}
 use Rattle.tpl_laws.specs.PathLaws.{PathLaws}
 use Rattle.tpl_laws.specs.RowTests.{implies}
-use Rattle.tpl_laws.specs.Verdict.{or_else, LeafFault, rows_fit}
+use Rattle.tpl_laws.specs.Verdict.{or_else, LeafFault, rows_fit, leaves}
 use Rattle.tpl_laws.specs.WiderTests.{each_begin, each_ending, wide_runs_by, wide_ends_by, begin_by, end_by, wide_chain, wide_broken, wide_proves, wide_first_broken, wide_leaf_fault, WideLeafIsRight}
-use Rattle.tpl_laws.specs.WideVerdict.{wide_leaves, wide_tree_fault, wide_claims_fault, tokens_fit, may_have_winner, wide_fits, wide_misfit, has_tokens, WideTreeIsRight, WideVerdictIsRight}
+use Rattle.tpl_laws.specs.WideVerdict.{wide_tree_fault, wide_claims_fault, tokens_fit, may_have_winner, wide_fits, wide_misfit, has_tokens, WideTreeIsRight, WideVerdictIsRight}
 use Rattle.tpl_laws.specs.FirstFault.{Passes}
 use Rattle.tpl_laws.specs.WideFaults.{wide_row_rules, WideBranch, wide_leaves_of, wide_leaf_rules, HasWideShape, wide_certificates, IsFirstWideFault, WideFaultIsFirst, OneFirstWideFault}
 use Rattle.tpl_laws.proofs.Deciding.{same, both, both3, both4}
@@ -30,7 +30,7 @@ use Rattle.tpl_laws.proofs.FirstFault.{past_rule_is, breaks_first, LeafTests, le
 use Rattle.tpl_laws.proofs.OneFault.{one_rule, Keeps, keeps_or_breaks, AreSound, all_joined, all_parted, one_first}
 
 -- the rules of a leaf
-keeps : (g : TaskGraph) (l : WideAssumed) (rows : List WideRow) (t : ℕ) → IsWidelyClosed g l rows t → Keeps (wide_row_rules g l rows t)
+keeps : (g : TaskGraph) (l : WideAssumed) (rows : List Row) (t : ℕ) → IsWidelyClosed g l rows t → Keeps (wide_row_rules g l rows t)
 keeps g l rows t c = (c.runs, c.ends, c.begin, c.end, c.chain)
 
 are_sound : (g : TaskGraph) (p : Property TaskId) (b : WideBranch) → AreSound (wide_leaf_rules g p b)
@@ -44,7 +44,7 @@ module _ (g : TaskGraph) (p : Property TaskId) where
   abbrev Passing : WideBranch → Type 0
   Passing b = Passes g (wide_leaf_rules g p b)
 
-  accepted_leaves : (l : WideAssumed) (tree : WideTree) → AcceptsWideTree g p l tree → AllByRecursion Passing (wide_leaves_of g p l tree)
+  accepted_leaves : (l : WideAssumed) (tree : Tree) → AcceptsWideTree g p l tree → AllByRecursion Passing (wide_leaves_of g p l tree)
   accepted_leaves l (OnInput i a b) e =
       all_joined Passing (wide_leaves_of g p (input_split l i true) a) (wide_leaves_of g p (input_split l i false) b) (accepted_leaves (input_split l i true) a e.1) (accepted_leaves (input_split l i false) b e.2)
   accepted_leaves l (OnEnd t a b d) e =
@@ -52,18 +52,18 @@ module _ (g : TaskGraph) (p : Property TaskId) where
       (all_joined Passing (wide_leaves_of g p (end_split l t Canceled) b) (wide_leaves_of g p (end_split l t Faulted) d) (accepted_leaves (end_split l t Canceled) b e.2) (accepted_leaves (end_split l t Faulted) d e.3))
   accepted_leaves l (OnWinner m x a b) e =
       all_joined Passing (wide_leaves_of g p (winner_split l m x true) a) (wide_leaves_of g p (winner_split l m x false) b) (accepted_leaves (winner_split l m x true) a e.1) (accepted_leaves (winner_split l m x false) b e.2)
-  accepted_leaves l (WideLeaf rows) e = (e.3, tt)
+  accepted_leaves l (RowsLeaf rows) e = (e.3, tt)
   accepted_leaves l LeastLeaf e = (e, tt)
 
-  accepted_shape : (l : WideAssumed) (tree : WideTree) → AcceptsWideTree g p l tree → HasWideShape g tree
+  accepted_shape : (l : WideAssumed) (tree : Tree) → AcceptsWideTree g p l tree → HasWideShape g tree
   accepted_shape l (OnInput i a b) e = (e.0, accepted_shape (input_split l i true) a e.1, accepted_shape (input_split l i false) b e.2)
   accepted_shape l (OnEnd t a b d) e =
       (e.0, accepted_shape (end_split l t RanToCompletion) a e.1, accepted_shape (end_split l t Canceled) b e.2, accepted_shape (end_split l t Faulted) d e.3)
   accepted_shape l (OnWinner m x a b) e = (e.0, accepted_shape (winner_split l m x true) a e.1, accepted_shape (winner_split l m x false) b e.2)
-  accepted_shape l (WideLeaf rows) e = (e.0, e.1, e.2)
+  accepted_shape l (RowsLeaf rows) e = (e.0, e.1, e.2)
   accepted_shape l LeastLeaf e = tt
 
-  leaves_accepted : (l : WideAssumed) (tree : WideTree) → HasWideShape g tree → AllByRecursion Passing (wide_leaves_of g p l tree) → AcceptsWideTree g p l tree
+  leaves_accepted : (l : WideAssumed) (tree : Tree) → HasWideShape g tree → AllByRecursion Passing (wide_leaves_of g p l tree) → AcceptsWideTree g p l tree
   leaves_accepted l (OnInput i a b) s e =
       let q = all_parted Passing (wide_leaves_of g p (input_split l i true) a) (wide_leaves_of g p (input_split l i false) b) e in
       (s.0, leaves_accepted (input_split l i true) a s.1 q.0, leaves_accepted (input_split l i false) b s.2 q.1)
@@ -74,10 +74,10 @@ module _ (g : TaskGraph) (p : Property TaskId) where
   leaves_accepted l (OnWinner m x a b) s e =
       let q = all_parted Passing (wide_leaves_of g p (winner_split l m x true) a) (wide_leaves_of g p (winner_split l m x false) b) e in
       (s.0, leaves_accepted (winner_split l m x true) a s.1 q.0, leaves_accepted (winner_split l m x false) b s.2 q.1)
-  leaves_accepted l (WideLeaf rows) s e = (s.0, s.1, s.2, e.0)
+  leaves_accepted l (RowsLeaf rows) s e = (s.0, s.1, s.2, e.0)
   leaves_accepted l LeastLeaf s e = e.0
 
-  count_leaves : (l : WideAssumed) (tree : WideTree) → wide_leaves tree ≡ length (wide_leaves_of g p l tree)
+  count_leaves : (l : WideAssumed) (tree : Tree) → leaves tree ≡ length (wide_leaves_of g p l tree)
   count_leaves l (OnInput i a b) =
       let x = count_leaves (input_split l i true) a in
       let y = count_leaves (input_split l i false) b in
@@ -95,26 +95,26 @@ module _ (g : TaskGraph) (p : Property TaskId) where
       let y = count_leaves (winner_split l m w false) b in
       let z = length-append (wide_leaves_of g p (winner_split l m w true) a) (wide_leaves_of g p (winner_split l m w false) b) in
       omega (arith, x, y, z)
-  count_leaves l (WideLeaf rows) = refl
+  count_leaves l (RowsLeaf rows) = refl
   count_leaves l LeastLeaf = refl
 
   abbrev fault_of : WideBranch → Option LeafFault
   fault_of b = wide_leaf_fault g p b.assumes b.rows
 
-  tree_is : (c : ℕ) (l : WideAssumed) (n : ℕ) (tree : WideTree) → wide_tree_fault g p c l n tree ≡ leaves_fault fault_of c n (wide_leaves_of g p l tree)
+  tree_is : (c : ℕ) (l : WideAssumed) (n : ℕ) (tree : Tree) → wide_tree_fault g p c l n tree ≡ leaves_fault fault_of c n (wide_leaves_of g p l tree)
   tree_is c l n (OnInput i a b) =
-      parts_joined fault_of c n (n + wide_leaves a) (wide_leaves_of g p (input_split l i true) a) (wide_leaves_of g p (input_split l i false) b) (wide_tree_fault g p c (input_split l i true) n a) (wide_tree_fault g p c (input_split l i false) (n + wide_leaves a) b)
-      (ap (λ z. n + z) (count_leaves (input_split l i true) a)) (tree_is c (input_split l i true) n a) (tree_is c (input_split l i false) (n + wide_leaves a) b)
+      parts_joined fault_of c n (n + leaves a) (wide_leaves_of g p (input_split l i true) a) (wide_leaves_of g p (input_split l i false) b) (wide_tree_fault g p c (input_split l i true) n a) (wide_tree_fault g p c (input_split l i false) (n + leaves a) b)
+      (ap (λ z. n + z) (count_leaves (input_split l i true) a)) (tree_is c (input_split l i true) n a) (tree_is c (input_split l i false) (n + leaves a) b)
   tree_is c l n (OnEnd t a b d) =
-      parts_joined fault_of c n (n + wide_leaves a) (wide_leaves_of g p (end_split l t RanToCompletion) a) (wide_leaves_of g p (end_split l t Canceled) b ++ wide_leaves_of g p (end_split l t Faulted) d) (wide_tree_fault g p c (end_split l t RanToCompletion) n a)
-      (or_else (wide_tree_fault g p c (end_split l t Canceled) (n + wide_leaves a) b) (wide_tree_fault g p c (end_split l t Faulted) (n + wide_leaves a + wide_leaves b) d))
+      parts_joined fault_of c n (n + leaves a) (wide_leaves_of g p (end_split l t RanToCompletion) a) (wide_leaves_of g p (end_split l t Canceled) b ++ wide_leaves_of g p (end_split l t Faulted) d) (wide_tree_fault g p c (end_split l t RanToCompletion) n a)
+      (or_else (wide_tree_fault g p c (end_split l t Canceled) (n + leaves a) b) (wide_tree_fault g p c (end_split l t Faulted) (n + leaves a + leaves b) d))
       (ap (λ z. n + z) (count_leaves (end_split l t RanToCompletion) a)) (tree_is c (end_split l t RanToCompletion) n a)
-      (parts_joined fault_of c (n + wide_leaves a) (n + wide_leaves a + wide_leaves b) (wide_leaves_of g p (end_split l t Canceled) b) (wide_leaves_of g p (end_split l t Faulted) d) (wide_tree_fault g p c (end_split l t Canceled) (n + wide_leaves a) b) (wide_tree_fault g p c (end_split l t Faulted) (n + wide_leaves a + wide_leaves b) d)
-      (ap (λ z. n + wide_leaves a + z) (count_leaves (end_split l t Canceled) b)) (tree_is c (end_split l t Canceled) (n + wide_leaves a) b) (tree_is c (end_split l t Faulted) (n + wide_leaves a + wide_leaves b) d))
+      (parts_joined fault_of c (n + leaves a) (n + leaves a + leaves b) (wide_leaves_of g p (end_split l t Canceled) b) (wide_leaves_of g p (end_split l t Faulted) d) (wide_tree_fault g p c (end_split l t Canceled) (n + leaves a) b) (wide_tree_fault g p c (end_split l t Faulted) (n + leaves a + leaves b) d)
+      (ap (λ z. n + leaves a + z) (count_leaves (end_split l t Canceled) b)) (tree_is c (end_split l t Canceled) (n + leaves a) b) (tree_is c (end_split l t Faulted) (n + leaves a + leaves b) d))
   tree_is c l n (OnWinner m x a b) =
-      parts_joined fault_of c n (n + wide_leaves a) (wide_leaves_of g p (winner_split l m x true) a) (wide_leaves_of g p (winner_split l m x false) b) (wide_tree_fault g p c (winner_split l m x true) n a) (wide_tree_fault g p c (winner_split l m x false) (n + wide_leaves a) b)
-      (ap (λ z. n + z) (count_leaves (winner_split l m x true) a)) (tree_is c (winner_split l m x true) n a) (tree_is c (winner_split l m x false) (n + wide_leaves a) b)
-  tree_is c l n (WideLeaf rows) = one_leaf fault_of c n (record { assumes = narrowed g l; rows = rows })
+      parts_joined fault_of c n (n + leaves a) (wide_leaves_of g p (winner_split l m x true) a) (wide_leaves_of g p (winner_split l m x false) b) (wide_tree_fault g p c (winner_split l m x true) n a) (wide_tree_fault g p c (winner_split l m x false) (n + leaves a) b)
+      (ap (λ z. n + z) (count_leaves (winner_split l m x true) a)) (tree_is c (winner_split l m x true) n a) (tree_is c (winner_split l m x false) (n + leaves a) b)
+  tree_is c l n (RowsLeaf rows) = one_leaf fault_of c n (record { assumes = narrowed g l; rows = rows })
   tree_is c l n LeastLeaf = one_leaf fault_of c n (record { assumes = narrowed g l; rows = least_rows g (narrowed g l) p })
 
 -- shapes
@@ -122,13 +122,13 @@ tokens_decided : (g : TaskGraph) (ks : List ℕ) → Decides (has_tokens g ks) (
 tokens_decided g [] = (λ e. tt, λ u. refl)
 tokens_decided g (k ∷ ks) = both (is_token g k) (AllTokens g ks) (nat_lt k (length g.tokens)) (has_tokens g ks) (ltb-true k (length g.tokens), lt-ltb k (length g.tokens)) (tokens_decided g ks)
 
-row_tokens : (g : TaskGraph) (r : WideRow) (rows : List WideRow) → Decides (tokens_fit g rows) (TokensOfRows g rows) → Decides (tokens_fit g (r ∷ rows)) ((AllTokens g r.asked × AllTokens g r.asks) × TokensOfRows g rows)
+row_tokens : (g : TaskGraph) (r : Row) (rows : List Row) → Decides (tokens_fit g rows) (TokensOfRows g rows) → Decides (tokens_fit g (r ∷ rows)) ((AllTokens g r.asked × AllTokens g r.asks) × TokensOfRows g rows)
 row_tokens g r rows d =
     both (AllTokens g r.asked × AllTokens g r.asks) (TokensOfRows g rows) (has_tokens g r.asked && has_tokens g r.asks) (tokens_fit g rows)
     (both (AllTokens g r.asked) (AllTokens g r.asks) (has_tokens g r.asked) (has_tokens g r.asks) (tokens_decided g r.asked) (tokens_decided g r.asks))
     d
 
-pub tokens_of_rows : (g : TaskGraph) (rows : List WideRow) → Decides (tokens_fit g rows) (TokensOfRows g rows)
+pub tokens_of_rows : (g : TaskGraph) (rows : List Row) → Decides (tokens_fit g rows) (TokensOfRows g rows)
 tokens_of_rows g [] = (λ e. tt, λ u. refl)
 tokens_of_rows g (r ∷ rows) = (
   λ e. let q = (row_tokens g r rows (tokens_of_rows g rows)).0 e in (q.0.0, q.0.1, q.1),
@@ -140,14 +140,14 @@ winner_decided (WhenAny args) x = (λ e. e, λ e. e)
 winner_decided k x = (λ e. true_false (sym e), λ f. absurd f)
 
 module _ (paths : PathLaws) (g : TaskGraph) (valid : IsGraph g) where
-  shape_decided : (tree : WideTree) → Decides (wide_fits g tree) (HasWideShape g tree)
+  shape_decided : (tree : Tree) → Decides (wide_fits g tree) (HasWideShape g tree)
   shape_decided (OnInput i a b) =
       both3 (i < g.inputs) (HasWideShape g a) (HasWideShape g b) (nat_lt i g.inputs) (wide_fits g a) (wide_fits g b) (below_decided i g.inputs) (shape_decided a) (shape_decided b)
   shape_decided (OnEnd t a b d) =
       both4 (is_task g t) (HasWideShape g a) (HasWideShape g b) (HasWideShape g d) (nat_lt t (length g.tasks)) (wide_fits g a) (wide_fits g b) (wide_fits g d) (below_decided t (length g.tasks)) (shape_decided a) (shape_decided b) (shape_decided d)
   shape_decided (OnWinner m x a b) =
       both3 (MayHaveWinner (kind g m) x) (HasWideShape g a) (HasWideShape g b) (may_have_winner (kind g m) x) (wide_fits g a) (wide_fits g b) (winner_decided (kind g m) x) (shape_decided a) (shape_decided b)
-  shape_decided (WideLeaf rows) =
+  shape_decided (RowsLeaf rows) =
       both3 (length rows ≡ length g.tasks) (IdsOfRows g (plain rows)) (TokensOfRows g rows) (nat_eq (length rows) (length g.tasks)) (rows_fit g (plain rows)) (tokens_fit g rows)
       (same (length rows) (length g.tasks)) (rows_decided g (plain rows)) (tokens_of_rows g rows)
   shape_decided LeastLeaf = (λ e. tt, λ u. refl)
@@ -200,7 +200,7 @@ wide_tree_lem paths g p claim l leaf tree valid =
       λ a. (shape.1 (accepted_shape g p l tree a), same ∙ clears.1 (accepted_leaves g p l tree a)),
     )
 
-all_accepted : (g : TaskGraph) (claims : List Claim) (trees : List WideTree) → AllZip (λ claim tree. AcceptsWideTree g claim.body (widely_assumed g claim) tree) claims trees ↔ WidelyAccepts g claims trees
+all_accepted : (g : TaskGraph) (claims : List Claim) (trees : List Tree) → AllZip (λ claim tree. AcceptsWideTree g claim.body (widely_assumed g claim) tree) claims trees ↔ WidelyAccepts g claims trees
 all_accepted g [] [] = (λ a. a, λ a. a)
 all_accepted g [] (tree ∷ trees) = (λ a. a, λ a. a)
 all_accepted g (claim ∷ claims) [] = (λ a. a, λ a. a)
@@ -220,5 +220,5 @@ one_wide_fault g claims trees one other a b =
     one_first g (wide_certificates g) (are_sound g) (λ claim tree. accepted_leaves g claim.body (widely_assumed g claim) tree) claims trees one other a b
 
 -- the first fault names a task of the graph
-pub wide_names_task : (g : TaskGraph) (claims : List Claim) (trees : List WideTree) (claim leaf : ℕ) (t : TaskId) (rule : Rule) → IsFirstWideFault g claims trees (NotClosed claim leaf t rule) → is_task g t.0
+pub wide_names_task : (g : TaskGraph) (claims : List Claim) (trees : List Tree) (claim leaf : ℕ) (t : TaskId) (rule : Rule) → IsFirstWideFault g claims trees (NotClosed claim leaf t rule) → is_task g t.0
 wide_names_task g claims trees claim leaf t rule f = first_names g (wide_certificates g) claims trees claim leaf t rule f

@@ -16,8 +16,8 @@ use Rattle.tpl_model.specs.Graph.{TaskGraph, TaskKind, Root, Child, Continues, W
 use Rattle.tpl_model.specs.declared.ids.TaskId.{TaskId}
 use Rattle.tpl_model.specs.declared.claim.Property.{Property}
 use Rattle.tpl_model.specs.declared.claim.Property.TheVariants.{Observed}
-use Rattle.tpl_model.specs.Certificate.{Row, row, Tree, SplitInput, SplitEnd, Leaf, end_left, is_loud, one_ends, subject_ends, subject_set, view, RunsRule, BodyMayEnd, MayEndAs, BeforeRule, may_end_early, may_end, PastRule, Links, ChainRule, Closed, Proves, IdsOfRows, AcceptsTree, assumed_for}
-use Rattle.tpl_model.specs.WiderRules.{WideRow, plain, wide_row, begins_with, ends_with, once_ended, WideAssumed, with_winners, kind_left, subject_left, wide_view, reading, asked_of, known_at_end, known_at_start, may_run, WideRunsRule, Way, ByBody, RootDropped, ChildDropped, DroppedEarly, DroppedLate, NotAllowed, way_final, MayEndBy, IsWay, HoldsBy, WideEndsRule, BeginRule, EndRule, WideLinks, WideChainRule, WidelyClosed, WidelyProves, TokensOfRows, narrowed, input_split, end_split, widely_assumed, as_wide, as_wide_tree}
+use Rattle.tpl_model.specs.Certificate.{PlainRow, row, Tree, OnInput, OnEnd, OnWinner, RowsLeaf, LeastLeaf, ArePlain, end_left, is_loud, one_ends, subject_ends, subject_set, view, RunsRule, BodyMayEnd, MayEndAs, BeforeRule, may_end_early, may_end, PastRule, Links, ChainRule, Closed, Proves, IdsOfRows, AcceptsTree, assumed_for, Row, plain}
+use Rattle.tpl_model.specs.WiderRules.{wide_row, begins_with, ends_with, once_ended, WideAssumed, with_winners, kind_left, subject_left, wide_view, reading, asked_of, known_at_end, known_at_start, may_run, WideRunsRule, Way, ByBody, RootDropped, ChildDropped, DroppedEarly, DroppedLate, NotAllowed, way_final, MayEndBy, IsWay, HoldsBy, WideEndsRule, BeginRule, EndRule, WideLinks, WideChainRule, WidelyClosed, WidelyProves, AllTokens, TokensOfRows, narrowed, input_split, end_split, widely_assumed}
 use Rattle.tpl_laws.specs.WideTrees.{AcceptsWideTree}
 use Rattle.tpl_laws.specs.Wider.{AssumesMore}
 use Rattle.tpl_laws.proofs.Wider.{KnowsMore, may_end_more, may_throw_more, may_start_more, more_is_assumed_lem, tree_more, wide_more}
@@ -27,26 +27,18 @@ use Rattle.tpl_laws.proofs.Basics.{is_some_of}
 use Rattle.tpl_laws.proofs.Settling.{mem_filter}
 use Rattle.tpl_laws.proofs.Chains.{none_of}
 
--- the rows are the same, and say nothing of tokens
-pub plain_wide : (rows : List Row) → plain (as_wide rows) ≡ rows
-plain_wide [] = refl
-plain_wide (r ∷ rows) = ap (λ z. r ∷ z) (plain_wide rows)
+-- the rows say nothing of tokens
+no_tokens : (rows : List Row) (t : ℕ) → ArePlain rows → ((wide_row rows t).asked ≡ []) × ((wide_row rows t).asks ≡ [])
+no_tokens [] t none = (refl, refl)
+no_tokens (r ∷ rows) zero none = (none.0, none.1)
+no_tokens (r ∷ rows) (suc t) none = no_tokens rows t none.2
 
-no_tokens : (rows : List Row) (t : ℕ) → ((wide_row (as_wide rows) t).asked ≡ []) × ((wide_row (as_wide rows) t).asks ≡ [])
-no_tokens [] t = (refl, refl)
-no_tokens (r ∷ rows) zero = (refl, refl)
-no_tokens (r ∷ rows) (suc t) = no_tokens rows t
-
-same_length : (rows : List Row) → length (as_wide rows) ≡ length rows
-same_length [] = refl
-same_length (r ∷ rows) = ap suc (same_length rows)
-
-no_ids : (g : TaskGraph) (rows : List Row) → TokensOfRows g (as_wide rows)
-no_ids g [] = tt
-no_ids g (r ∷ rows) = (tt, tt, no_ids g rows)
+no_ids : (g : TaskGraph) (rows : List Row) → ArePlain rows → TokensOfRows g rows
+no_ids g [] none = tt
+no_ids g (r ∷ rows) none = (subst (AllTokens g) (sym none.0) tt, subst (AllTokens g) (sym none.1) tt, no_ids g rows none.2)
 
 -- a task that may end has an end
-some_end : (rows : List Row) (t : ℕ) → may_end rows t ≡ true → (f : Final) × (has (row rows t).ends f ≡ true)
+some_end : (rows : List PlainRow) (t : ℕ) → may_end rows t ≡ true → (f : Final) × (has (row rows t).ends f ≡ true)
 some_end rows t e =
     elim (or_cases (has (row rows t).ends RanToCompletion) (has (row rows t).ends Canceled || has (row rows t).ends Faulted) e) [
       | inl q ↦ (RanToCompletion, q)
@@ -54,7 +46,7 @@ some_end rows t e =
     ]
 
 -- where fewer arguments may win, the subject of a continuation may have ended in fewer ways
-one_ends_less : (rows : List Row) (may_win : ℕ → Bool) (args : List ℕ) (f : Final) → one_ends (filter may_win args) rows f ≡ true → one_ends args rows f ≡ true
+one_ends_less : (rows : List PlainRow) (may_win : ℕ → Bool) (args : List ℕ) (f : Final) → one_ends (filter may_win args) rows f ≡ true → one_ends args rows f ≡ true
 one_ends_less rows may_win [] f e = e
 one_ends_less rows may_win (x ∷ args) f e = pick (λ q. one_ends_less rows may_win args f q) (may_win x) e
   where
@@ -66,7 +58,7 @@ one_ends_less rows may_win (x ∷ args) f e = pick (λ q. one_ends_less rows may
         ]
     pick others false e = or_right (has (row rows x).ends f) (one_ends args rows f) (others e)
 
-view_more : (g : TaskGraph) (l : WideAssumed) (rows : List WideRow) (t : ℕ) → KnowsMore (view g l.assumed (plain rows) t) (wide_view g l rows t)
+view_more : (g : TaskGraph) (l : WideAssumed) (rows : List Row) (t : ℕ) → KnowsMore (view g l.assumed (plain rows) t) (wide_view g l rows t)
 view_more g l rows t = record {
   own = refl;
   possible = λ i value e. e;
@@ -83,8 +75,8 @@ view_more g l rows t = record {
     by_kind (Continues a) f e = of_kind a (kind g a) f e
     by_kind k f e = e
 
-module _ (g : TaskGraph) (l : WideAssumed) (rows : List WideRow) (nothing : (t : ℕ) → ((wide_row rows t).asked ≡ []) × ((wide_row rows t).asks ≡ [])) (closed : Closed g l.assumed (plain rows)) where
-  abbrev flat : List Row
+module _ (g : TaskGraph) (l : WideAssumed) (rows : List Row) (nothing : (t : ℕ) → ((wide_row rows t).asked ≡ []) × ((wide_row rows t).asks ≡ [])) (closed : Closed g l.assumed (plain rows)) where
+  abbrev flat : List PlainRow
   flat = plain rows
 
   -- a start that is found is on a path
@@ -224,7 +216,7 @@ module _ (g : TaskGraph) (l : WideAssumed) (rows : List WideRow) (nothing : (t :
       by_end (IsSettled x) m = end_more t (kind g t) x i refl ((closed t i).past x m)
       by_end (IsRequested k) m = absurd (no_member k (wide_row rows t).asks (nothing t).1 m)
 
-proves_more : (g : TaskGraph) (l : WideAssumed) (rows : List WideRow) (p : Property TaskId) → Proves g l.assumed (plain rows) p → WidelyProves g l rows p
+proves_more : (g : TaskGraph) (l : WideAssumed) (rows : List Row) (p : Property TaskId) → Proves g l.assumed (plain rows) p → WidelyProves g l rows p
 proves_more g l rows (Observed t) (inl p) = inl p
 proves_more g l rows (Observed t) (inr (inl p)) = inr (inl p)
 proves_more g l rows (Observed t) (inr (inr (inl p))) = inr (inr (inl p))
@@ -233,10 +225,7 @@ proves_more g l rows (Observed t) (inr (inr (inr p))) =
 proves_more g l rows other p = p
 
 pub tokens_are_more_lem : TokensAreMore
-tokens_are_more_lem g l rows closed = (
-  closed_more g l (as_wide rows) (no_tokens rows) (subst (Closed g l.assumed) (sym (plain_wide rows)) closed),
-  λ p pr. proves_more g l (as_wide rows) p (subst (λ z. Proves g l.assumed z p) (sym (plain_wide rows)) pr),
-)
+tokens_are_more_lem g l rows none closed = (closed_more g l rows (λ t. no_tokens rows t none) closed, λ p pr. proves_more g l rows p pr)
 
 -- what is narrowed assumes more
 narrowed_more : (g : TaskGraph) (l : WideAssumed) → AssumesMore l.assumed (narrowed g l).assumed
@@ -248,18 +237,20 @@ narrowed_more g l = record {
   sure = λ site e. e;
 }
 
-tree_accepted : (g : TaskGraph) (p : Property TaskId) (l : WideAssumed) (tree : Tree) → AcceptsTree g p l.assumed tree → AcceptsWideTree g p l (as_wide_tree tree)
-tree_accepted g p l (SplitInput i a b) acc = (acc.0, tree_accepted g p (input_split l i true) a acc.1, tree_accepted g p (input_split l i false) b acc.2)
-tree_accepted g p l (SplitEnd t a b c) acc = (
+pub tree_accepted : (g : TaskGraph) (p : Property TaskId) (l : WideAssumed) (tree : Tree) → AcceptsTree g p l.assumed tree → AcceptsWideTree g p l tree
+tree_accepted g p l (OnInput i a b) acc = (acc.0, tree_accepted g p (input_split l i true) a acc.1, tree_accepted g p (input_split l i false) b acc.2)
+tree_accepted g p l (OnEnd t a b c) acc = (
   acc.0,
   tree_accepted g p (end_split l t RanToCompletion) a acc.1,
   tree_accepted g p (end_split l t Canceled) b acc.2,
   tree_accepted g p (end_split l t Faulted) c acc.3,
 )
-tree_accepted g p l (Leaf rows) acc =
-    let n = more_is_assumed_lem g l.assumed (narrowed g l).assumed rows (narrowed_more g l) acc.2 in
-    let m = tokens_are_more_lem g (narrowed g l) rows n.0 in
-    (same_length rows ∙ acc.0, subst (IdsOfRows g) (sym (plain_wide rows)) acc.1, no_ids g rows, (m.0, m.1 p (n.1 p acc.3)))
+tree_accepted g p l (OnWinner n x a b) acc = absurd acc
+tree_accepted g p l (RowsLeaf rows) acc =
+    let n = more_is_assumed_lem g l.assumed (narrowed g l).assumed (plain rows) (narrowed_more g l) acc.2 in
+    let m = tokens_are_more_lem g (narrowed g l) rows acc.4 n.0 in
+    (acc.0, acc.1, no_ids g rows acc.4, (m.0, m.1 p (n.1 p acc.3)))
+tree_accepted g p l LeastLeaf acc = absurd acc
 
 pub tokens_accept_more_lem : TokensAcceptMore
 tokens_accept_more_lem g [] [] acc = tt

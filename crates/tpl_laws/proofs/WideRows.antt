@@ -22,8 +22,8 @@ use Rattle.tpl_model.specs.declared.event.Event.{Event}
 use Rattle.tpl_model.specs.Facts.{Ending, begun, final_in, rest, started, starts_by, is_start, ending, carried_in, own_atom, those_started, outcome_in, body_final, requested, subject_in, subject_of}
 use Rattle.tpl_model.specs.Rules.{final, MayDrop, MayNotStart, MayCancel, Allows, Run, Settled, ended, token_requested, token_requested_by}
 use Rattle.tpl_model.specs.Valid.{IsGraph}
-use Rattle.tpl_model.specs.Certificate.{row, is_loud, subject_ends, subject_set}
-use Rattle.tpl_model.specs.WiderRules.{WideRow, plain, begins_with, ends_with, once_ended, linked, child_end, WideAssumed, WideAgrees, with_winners, subject_left, wide_view, reading, asked_of, known_at_end, known_at_start, may_run, WideRunsRule, Way, ByBody, RootDropped, ChildDropped, DroppedEarly, DroppedLate, NotAllowed, way_final, MayEndBy, OwnRequested, SettledBefore, KnownThere, BeforeBegin, HoldsBy, BeginRule, WidelyClosed}
+use Rattle.tpl_model.specs.Certificate.{row, is_loud, subject_ends, subject_set, Row, plain}
+use Rattle.tpl_model.specs.WiderRules.{begins_with, ends_with, once_ended, linked, child_end, WideAssumed, WideAgrees, with_winners, subject_left, wide_view, reading, asked_of, known_at_end, known_at_start, may_run, WideRunsRule, Way, ByBody, RootDropped, ChildDropped, DroppedEarly, DroppedLate, NotAllowed, way_final, MayEndBy, OwnRequested, SettledBefore, KnownThere, BeforeBegin, HoldsBy, BeginRule, WidelyClosed}
 use Rattle.tpl_laws.specs.WiderSoundness.{FactHolds}
 use Rattle.tpl_laws.proofs.Basics.{final_same, some_none, the_some, is_some_of, same_number, mem_here}
 use Rattle.tpl_laws.proofs.Kept.{after, ending_new, final_of, requested_kept, started_kept}
@@ -38,7 +38,7 @@ use Rattle.tpl_laws.proofs.Chains.{no_settle, ends_later}
 use Rattle.tpl_laws.proofs.Telling.{ToldIn, linked_requested}
 
 -- what the rows say of a run
-pub record WideTrue (g : TaskGraph) (l : WideAssumed) (rows : List WideRow) (v : List Bool) (h : List Event) : Type 0 where
+pub record WideTrue (g : TaskGraph) (l : WideAssumed) (rows : List Row) (v : List Bool) (h : List Event) : Type 0 where
   pub ends : (t : ℕ) (f : Final) → final g v h t ≡ Some f → has (row (plain rows) t).ends f ≡ true
   pub runs : (t : ℕ) → is_some (begun h t) ≡ true → may_run rows t ≡ true
   pub begin : (t : ℕ) (fact : Fact) → is_some (begun h t) ≡ true → begins_with rows t fact ≡ true → FactHolds g v h fact
@@ -46,7 +46,7 @@ pub record WideTrue (g : TaskGraph) (l : WideAssumed) (rows : List WideRow) (v :
   pub told : (t : ℕ) → is_some (begun h t) ≡ true → ToldIn l.assumed.quiet (asked_of rows t) g v h t
 
 -- what holds before an event
-pub record WideNow (g : TaskGraph) (l : WideAssumed) (rows : List WideRow) (v : List Bool) (h : List Event) : Type 0 where
+pub record WideNow (g : TaskGraph) (l : WideAssumed) (rows : List Row) (v : List Bool) (h : List Event) : Type 0 where
   pub valid : IsGraph g
   pub closed : WidelyClosed g l rows
   pub run : Run g v h
@@ -58,7 +58,7 @@ fact_kept g v h a x (IsSettled t) valid run al e = settled_kept g v h a x t vali
 fact_kept g v h a x (IsRequested k) valid run al e = requested_kept g v h a x k e
 
 -- how the subject of a task that has begun has ended is left to it
-left_fits : (g : TaskGraph) (l : WideAssumed) (rows : List WideRow) (v : List Bool) (h : List Event) (t : ℕ) → Run g v h → WideAgrees g l v h → ((s : ℕ) (f : Final) → final g v h s ≡ Some f → has (row (plain rows) s).ends f ≡ true) → is_some (begun h t) ≡ true → Fits g v h t (wide_view g l rows t)
+left_fits : (g : TaskGraph) (l : WideAssumed) (rows : List Row) (v : List Bool) (h : List Event) (t : ℕ) → Run g v h → WideAgrees g l v h → ((s : ℕ) (f : Final) → final g v h s ≡ Some f → has (row (plain rows) s).ends f ≡ true) → is_some (begun h t) ≡ true → Fits g v h t (wide_view g l rows t)
 left_fits g l rows v h t run agrees ends b =
     let fits = view_fits g v h l.assumed (plain rows) t run agrees.agrees ends b in
     record { own = fits.own; inputs = fits.inputs; quiet = fits.quiet; subject = by_kind (kind g t) fits.subject; jobs = fits.jobs }
@@ -142,13 +142,13 @@ facts_if true x fact e = (refl, e)
 facts_if false x fact e = true_false (sym e)
 
 -- a way in which a task ends now, and its facts hold
-pub record WayTaken (g : TaskGraph) (l : WideAssumed) (rows : List WideRow) (v : List Bool) (h : List Event) (t : ℕ) (k : TaskKind) (f : Final) : Type 0 where
+pub record WayTaken (g : TaskGraph) (l : WideAssumed) (rows : List Row) (v : List Bool) (h : List Event) (t : ℕ) (k : TaskKind) (f : Final) : Type 0 where
   pub way : Way
   pub may : MayEndBy g l rows t k way
   pub final : way_final way ≡ f
   pub holds : (fact : Fact) → HoldsBy g rows t k fact way → FactHolds g v h fact
 
-module _ (g : TaskGraph) (l : WideAssumed) (rows : List WideRow) (v : List Bool) (h : List Event) (now : WideNow g l rows v h) where
+module _ (g : TaskGraph) (l : WideAssumed) (rows : List Row) (v : List Bool) (h : List Event) (now : WideNow g l rows v h) where
   pub once_holds : (a : ℕ) (fact : Fact) → is_some (ending g v h a) ≡ true → once_ended rows a fact ≡ true → FactHolds g v h fact
   once_holds a (IsSettled x) e m =
       elim (or_cases (nat_eq x a) (mem x (row (plain rows) a).past) m) [

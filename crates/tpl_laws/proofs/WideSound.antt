@@ -19,8 +19,8 @@ use Rattle.tpl_model.specs.declared.ids.TaskId.{TaskId}
 use Rattle.tpl_model.specs.declared.claim.Property.{Property}
 use Rattle.tpl_model.specs.declared.claim.Property.TheVariants.{Observed}
 use Rattle.tpl_model.specs.Claims.{input, Claim, IsGiven}
-use Rattle.tpl_model.specs.Certificate.{same, own_quiet, taken}
-use Rattle.tpl_model.specs.WiderRules.{WideRow, plain, WideAssumed, WideAgrees, WidelyClosed, WidelyProves, WideTree, OnInput, OnEnd, OnWinner, WideLeaf, LeastLeaf, narrowed, input_split, end_split, winner_split, widely_assumed}
+use Rattle.tpl_model.specs.Certificate.{same, own_quiet, taken, Row, plain, Tree, OnInput, OnEnd, OnWinner, RowsLeaf, LeastLeaf}
+use Rattle.tpl_model.specs.WiderRules.{WideAssumed, WideAgrees, WidelyClosed, WidelyProves, narrowed, input_split, end_split, winner_split, widely_assumed}
 use Rattle.tpl_laws.specs.WideTrees.{AcceptsWideTree, written}
 use Rattle.tpl_laws.specs.LeastRows.{least_rows}
 use Rattle.tpl_laws.specs.WiderSoundness.{HasRows, SomeWideLeafIsTrue, WideRowsAreTrue, WideSoundness}
@@ -47,7 +47,7 @@ wide_rows_lem g l rows v h valid closed run agrees =
     )
 
 -- what a closed leaf proves, it shows
-wide_shows : (g : TaskGraph) (l : WideAssumed) (rows : List WideRow) (v : List Bool) (h : List Event) (p : Property TaskId) → WideNow g l rows v h → WidelyProves g l rows p → Shows g l.assumed (plain rows) v h p
+wide_shows : (g : TaskGraph) (l : WideAssumed) (rows : List Row) (v : List Bool) (h : List Event) (p : Property TaskId) → WideNow g l rows v h → WidelyProves g l rows p → Shows g l.assumed (plain rows) v h p
 wide_shows g l rows v h (Observed t) now pr = λ complete lb e. by_proof lb complete e (label_verdict (outcome_in (rest g v h t.0)) lb e) pr
   where
     by_proof : (lb : Label) → Complete g v h → label g v h t.0 ≡ Some lb → outcome_in (rest g v h t.0) ≡ Some (Threw lb) → WidelyProves g l rows (Observed t) → seen g v h t.0 ≡ true
@@ -65,13 +65,13 @@ wide_shows g l rows v h (Observed t) now pr = λ complete lb e. by_proof lb comp
 wide_shows g l rows v h p now pr = pr
 
 -- a leaf of an accepted tree that agrees with a run so far
-record AWideLeaf (g : TaskGraph) (p : Property TaskId) (tree : WideTree) (v : List Bool) (h : List Event) : Type 0 where
-  assumes : WideAssumed
-  rows : List WideRow
-  has : HasRows tree rows
-  agrees : WideAgrees g assumes v h
-  closed : WidelyClosed g assumes rows
-  proves : WidelyProves g assumes rows p
+pub record AWideLeaf (g : TaskGraph) (p : Property TaskId) (tree : Tree) (v : List Bool) (h : List Event) : Type 0 where
+  pub assumes : WideAssumed
+  pub rows : List Row
+  pub has : HasRows tree rows
+  pub agrees : WideAgrees g assumes v h
+  pub closed : WidelyClosed g assumes rows
+  pub proves : WidelyProves g assumes rows p
 
 -- it is found by taking at each split on an end the branch by which the task is bound to end, and at each split on a
 -- winner the branch of the winner, or either while there is none
@@ -118,10 +118,10 @@ module _ (g : TaskGraph) (p : Property TaskId) (v : List Bool) (h : List Event) 
       ]
 
   -- a leaf of a branch is one of the tree; one without rows has the least ones
-  of_branch : (tree branch : WideTree) → ((rows : List WideRow) → HasRows branch rows → HasRows tree rows) → AWideLeaf g p branch v h → AWideLeaf g p tree v h
+  of_branch : (tree branch : Tree) → ((rows : List Row) → HasRows branch rows → HasRows tree rows) → AWideLeaf g p branch v h → AWideLeaf g p tree v h
   of_branch tree branch has leaf = record { assumes = leaf.assumes; rows = leaf.rows; has = has leaf.rows leaf.has; agrees = leaf.agrees; closed = leaf.closed; proves = leaf.proves }
 
-  some_leaf : (l : WideAssumed) (tree : WideTree) → WideAgrees g l v h → Bound l → AcceptsWideTree g p l tree → AWideLeaf g p (written g p l tree) v h
+  pub some_leaf : (l : WideAssumed) (tree : Tree) → WideAgrees g l v h → Bound l → AcceptsWideTree g p l tree → AWideLeaf g p (written g p l tree) v h
   some_leaf l (OnInput i a b) agrees bound acc =
       elim (cases_Bool (input v i)) [
         | inl e ↦ of_branch (written g p l (OnInput i a b)) (written g p (input_split l i true) a) (λ rows h. inl h) (some_leaf (input_split l i true) a (takes_input l i true e agrees) bound acc.1)
@@ -141,12 +141,12 @@ module _ (g : TaskGraph) (p : Property TaskId) (v : List Bool) (h : List Event) 
       by_winner n x (AWideLeaf g p (written g p l (OnWinner n x a b)) v h) (winner_of (ending g v h n)) refl
       (λ won. of_branch (written g p l (OnWinner n x a b)) (written g p (winner_split l n x true) a) (λ rows h. inl h) (some_leaf (winner_split l n x true) a (takes_winner l n x true won agrees) bound acc.1))
       (λ won. of_branch (written g p l (OnWinner n x a b)) (written g p (winner_split l n x false) b) (λ rows h. inr h) (some_leaf (winner_split l n x false) b (takes_winner l n x false won agrees) bound acc.2))
-  some_leaf l (WideLeaf rows) agrees bound acc =
+  some_leaf l (RowsLeaf rows) agrees bound acc =
       record { assumes = narrowed g l; rows = rows; has = refl; agrees = narrowed_agrees g v h valid run l agrees bound; closed = acc.3.0; proves = acc.3.1 }
   some_leaf l LeastLeaf agrees bound acc =
       record { assumes = narrowed g l; rows = least_rows g (narrowed g l) p; has = refl; agrees = narrowed_agrees g v h valid run l agrees bound; closed = acc.0; proves = acc.1 }
 
-a_wide_leaf : (g : TaskGraph) (claim : Claim) (tree : WideTree) (v : List Bool) (h : List Event) → IsGraph g → AcceptsWideTree g claim.body (widely_assumed g claim) tree → Run g v h → IsGiven g v h claim.given → IsGiven g v h (own_quiet g claim.body) → ALeaf g v h claim.body
+a_wide_leaf : (g : TaskGraph) (claim : Claim) (tree : Tree) (v : List Bool) (h : List Event) → IsGraph g → AcceptsWideTree g claim.body (widely_assumed g claim) tree → Run g v h → IsGiven g v h claim.given → IsGiven g v h (own_quiet g claim.body) → ALeaf g v h claim.body
 a_wide_leaf g claim tree v h valid acc run i q =
     let w = some_leaf g claim.body v h valid run (widely_assumed g claim) tree
     (record { agrees = given_agrees g v h (taken Wide g claim) (is_taken Wide g claim v h i q); winners = λ n x e. refl }) (λ s. refl) acc in

@@ -14,7 +14,7 @@ use Rattle.tpl_model.specs.declared.claim.Given.{Given}
 use Rattle.tpl_model.specs.declared.ids.TaskId.{TaskId}
 use Rattle.tpl_model.specs.declared.claim.Property.{Property}
 use Rattle.tpl_model.specs.declared.claim.Property.TheVariants.{After, Observed, Never, Excludes}
-use Rattle.tpl_model.specs.Certificate.{Row, row, Tree, SplitInput, SplitEnd, Leaf, Assumed, end_left, same, given_quiet, assumed, with_input, with_end, is_loud, loud_token, view, RunsRule, BodyMayEnd, MayBeCanceled, MayEndAs, may_end_early, PastRule, Reads, Links, ChainRule, Closed, Proves, AcceptsTree, as_quiet, same_token, own_quiet}
+use Rattle.tpl_model.specs.Certificate.{PlainRow, row, plain, Tree, OnInput, OnEnd, OnWinner, RowsLeaf, LeastLeaf, Assumed, end_left, same, given_quiet, assumed, with_input, with_end, is_loud, loud_token, view, RunsRule, BodyMayEnd, MayBeCanceled, MayEndAs, may_end_early, PastRule, Reads, Links, ChainRule, Closed, Proves, AcceptsTree, as_quiet, same_token, own_quiet}
 use Rattle.tpl_laws.specs.Wider.{AssumesMore, MoreIsAssumed}
 
 -- u knows what w does, and maybe more
@@ -65,7 +65,7 @@ not_so : (b c : Bool) → (b ≡ true → c ≡ true) → not c ≡ true → not
 not_so true c f e = true_false (sym e ∙ ap not (f refl))
 not_so false c f e = refl
 
-module _ (g : TaskGraph) (l m : Assumed) (rows : List Row) (more : AssumesMore l m) where
+module _ (g : TaskGraph) (l m : Assumed) (rows : List PlainRow) (more : AssumesMore l m) where
   view_more : (t : ℕ) → KnowsMore (view g l rows t) (view g m rows t)
   view_more t = record {
     own = refl;
@@ -181,15 +181,17 @@ end_more l m t f more = record {
 }
 
 pub tree_more : (g : TaskGraph) (p : Property TaskId) (l m : Assumed) (tree : Tree) → AssumesMore l m → AcceptsTree g p l tree → AcceptsTree g p m tree
-tree_more g p l m (SplitInput i a b) more acc =
+tree_more g p l m (OnInput i a b) more acc =
     (acc.0, tree_more g p (with_input l i true) (with_input m i true) a (input_more l m i true more) acc.1, tree_more g p (with_input l i false) (with_input m i false) b (input_more l m i false more) acc.2)
-tree_more g p l m (SplitEnd t a b c) more acc = (
+tree_more g p l m (OnEnd t a b c) more acc = (
   acc.0,
   tree_more g p (with_end l t RanToCompletion) (with_end m t RanToCompletion) a (end_more l m t RanToCompletion more) acc.1,
   tree_more g p (with_end l t Canceled) (with_end m t Canceled) b (end_more l m t Canceled more) acc.2,
   tree_more g p (with_end l t Faulted) (with_end m t Faulted) c (end_more l m t Faulted more) acc.3,
 )
-tree_more g p l m (Leaf rows) more acc = (acc.0, acc.1, closed_more g l m rows more acc.2, proves_more g l m rows more p acc.3)
+tree_more g p l m (OnWinner n x a b) more acc = absurd acc
+tree_more g p l m (RowsLeaf rows) more acc = (acc.0, acc.1, closed_more g l m (plain rows) more acc.2, proves_more g l m (plain rows) more p acc.3, acc.4)
+tree_more g p l m LeastLeaf more acc = absurd acc
 
 -- with own tokens taken as quiet, the wide rules assume more
 own_more : (g : TaskGraph) (given : List Given) (o : Option ℕ) → AssumesMore (assumed g given) (assumed g (as_quiet o ++ given))

@@ -17,8 +17,8 @@ use Rattle.tpl_model.specs.Valid.{IsGraph}
 use Rattle.tpl_model.specs.declared.ids.TaskId.{TaskId}
 use Rattle.tpl_model.specs.declared.claim.Property.{Property}
 use Rattle.tpl_model.specs.declared.claim.Property.TheVariants.{Observed}
-use Rattle.tpl_model.specs.Certificate.{row, end_left, is_loud, AllMayEnd, may_end, TakesOver, Reads, NoneComplete}
-use Rattle.tpl_model.specs.WiderRules.{WideRow, plain, wide_row, begins_with, ends_with, once_ended, linked, WideAssumed, kind_left, reading, asked_of, known_at_end, known_at_start, own_among, may_run, WideRunsRule, Way, ByBody, RootDropped, ChildDropped, DroppedEarly, DroppedLate, NotAllowed, way_final, MayEndBy, IsWay, OwnRequested, SettledBefore, KnownThere, BeforeBegin, HoldsBy, WideEndsRule, BeginRule, SettledBelow, EndRule, IsWonBy, ReadsWinner, WideLinks, WideChainRule, IsWidelyClosed, WidelyProves}
+use Rattle.tpl_model.specs.Certificate.{row, end_left, is_loud, AllMayEnd, may_end, TakesOver, Reads, NoneComplete, Row, plain}
+use Rattle.tpl_model.specs.WiderRules.{wide_row, begins_with, ends_with, once_ended, linked, WideAssumed, kind_left, reading, asked_of, known_at_end, known_at_start, own_among, may_run, WideRunsRule, Way, ByBody, RootDropped, ChildDropped, DroppedEarly, DroppedLate, NotAllowed, way_final, MayEndBy, IsWay, OwnRequested, SettledBefore, KnownThere, BeforeBegin, HoldsBy, WideEndsRule, BeginRule, SettledBelow, EndRule, IsWonBy, ReadsWinner, WideLinks, WideChainRule, IsWidelyClosed, WidelyProves}
 use Rattle.tpl_laws.specs.PathLaws.{PathLaws}
 use Rattle.tpl_laws.specs.RowTests.{implies, all_in, each_end, some_end, all_may_end, takes_over, faulted_view, reads, is_none, none_complete}
 use Rattle.tpl_laws.specs.WiderTests.{if_known, each_begin, each_ending, wide_runs_by, each_drop, each_body_end, each_way, wide_ends_by, begin_by, own_requested, settled_before, known_there, before_begin, holds_by, settled_below, end_by, is_won_by, reads_winner, wide_links, wide_chain, wide_broken, wide_proves}
@@ -55,13 +55,13 @@ facts_decided among xs ks settled requested P q d =
     (λ e. by_fact (λ f. among f ≡ true → P f) (λ x m. e.0 x (sym (settled x) ∙ m)) (λ k m. e.1 k (sym (requested k) ∙ m)))
     (λ f. ((λ x m. f (IsSettled x) (settled x ∙ m)), (λ k m. f (IsRequested k) (requested k ∙ m))))
 
-begin_decided : (rows : List WideRow) (t : ℕ) (P : Fact → Type 0) (q : Fact → Bool) → ((f : Fact) → Decides (q f) (P f)) → Decides (each_begin rows t q) ((f : Fact) → begins_with rows t f ≡ true → P f)
+begin_decided : (rows : List Row) (t : ℕ) (P : Fact → Type 0) (q : Fact → Bool) → ((f : Fact) → Decides (q f) (P f)) → Decides (each_begin rows t q) ((f : Fact) → begins_with rows t f ≡ true → P f)
 begin_decided rows t P q d = facts_decided (begins_with rows t) (row (plain rows) t).before (wide_row rows t).asked (λ x. refl) (λ k. refl) P q d
 
-ending_decided : (rows : List WideRow) (t : ℕ) (P : Fact → Type 0) (q : Fact → Bool) → ((f : Fact) → Decides (q f) (P f)) → Decides (each_ending rows t q) ((f : Fact) → ends_with rows t f ≡ true → P f)
+ending_decided : (rows : List Row) (t : ℕ) (P : Fact → Type 0) (q : Fact → Bool) → ((f : Fact) → Decides (q f) (P f)) → Decides (each_ending rows t q) ((f : Fact) → ends_with rows t f ≡ true → P f)
 ending_decided rows t P q d = facts_decided (ends_with rows t) (row (plain rows) t).past (wide_row rows t).asks (λ x. refl) (λ k. refl) P q d
 
-module _ (g : TaskGraph) (l : WideAssumed) (rows : List WideRow) (t : ℕ) (valid : IsGraph g) where
+module _ (g : TaskGraph) (l : WideAssumed) (rows : List Row) (t : ℕ) (valid : IsGraph g) where
   -- it runs, unless its token is known
   unless_known : (o : Option ℕ) (tokens : ℕ → Bool) (r : Bool) → Decides (implies (not (token_requested_by o tokens)) r) (token_requested_by o tokens ≡ false → r ≡ true)
   unless_known o tokens r = only_if (token_requested_by o tokens ≡ false) (r ≡ true) (not (token_requested_by o tokens)) r (opposite (token_requested_by o tokens)) (itself r)
@@ -307,7 +307,7 @@ some_decided : (o : Option Knowledge) → Decides (not (is_some o)) (o ≡ None)
 some_decided None = (λ e. refl, λ e. refl)
 some_decided (Some k) = (λ e. true_false (sym e), λ e. absurd (cc))
 
-pub wide_proves_lem : (paths : PathLaws) (g : TaskGraph) (l : WideAssumed) (rows : List WideRow) (p : Property TaskId) → Decides (wide_proves g l rows p) (WidelyProves g l rows p)
+pub wide_proves_lem : (paths : PathLaws) (g : TaskGraph) (l : WideAssumed) (rows : List Row) (p : Property TaskId) → Decides (wide_proves g l rows p) (WidelyProves g l rows p)
 wide_proves_lem paths g l rows (Observed t) =
     let thrown = at_throw (reading g l rows t.0) (asked_of rows t.0) (body g t.0) in
     let faulted = has (row (plain rows) t.0).ends Faulted in

@@ -12,8 +12,8 @@ use Rattle.tpl_model.specs.declared.ids.TaskId.{TaskId}
 use Rattle.tpl_model.specs.declared.limits.TheConstants.{MOST_IN_CHAIN}
 use Rattle.tpl_model.specs.declared.claim.Property.{Property}
 use Rattle.tpl_model.specs.declared.claim.Property.TheVariants.{Observed}
-use Rattle.tpl_model.specs.Certificate.{row, end_left, may_end}
-use Rattle.tpl_model.specs.WiderRules.{WideRow, plain, wide_row, WideAssumed, kind_left, may_run, way_final}
+use Rattle.tpl_model.specs.Certificate.{row, end_left, may_end, Row, plain}
+use Rattle.tpl_model.specs.WiderRules.{wide_row, WideAssumed, kind_left, may_run, way_final}
 use Rattle.tpl_laws.specs.RowTests.{all_may_end, some_end, parent_of, is_below, reads, takes_over, some_below}
 use Rattle.tpl_laws.specs.WiderTests.{wide_runs_by, each_way, begin_by, end_by, reads_winner}
 
@@ -29,12 +29,12 @@ abbrev pub ends_where : (Final → Bool) → Finals
 ends_where test = record { ran = test RanToCompletion; canceled = test Canceled; faulted = test Faulted }
 
 -- a row that says nothing
-abbrev pub blank_row : WideRow
+abbrev pub blank_row : Row
 blank_row = wide_row [] 0
 
 -- the row of t once it is known whether t may begin: it runs if K1 demands it, and if so says all of its begin that K3
 -- permits
-abbrev pub begun_row : TaskGraph → WideAssumed → List WideRow → ℕ → Bool → WideRow
+abbrev pub begun_row : TaskGraph → WideAssumed → List Row → ℕ → Bool → Row
 begun_row g l rows t false = blank_row
 begun_row g l rows t true = record {
   row = record {
@@ -49,7 +49,7 @@ begun_row g l rows t true = record {
 }
 
 -- K2 demands that a task of this kind may end so
-abbrev pub has_to_end_so : TaskGraph → WideAssumed → List WideRow → ℕ → TaskKind → Final → Bool
+abbrev pub has_to_end_so : TaskGraph → WideAssumed → List Row → ℕ → TaskKind → Final → Bool
 has_to_end_so g l rows t (WhenAll args) f = all_may_end (plain rows) args f && end_left l.assumed t f
 has_to_end_so g l rows t (WhenAny args) f = is_final RanToCompletion f && (some_in (may_end (plain rows)) args && end_left l.assumed t f)
 has_to_end_so g l rows t kind f = not (each_way g l rows t (λ way. not (is_final (way_final way) f)))
@@ -93,7 +93,7 @@ chain_for g l (Observed o) t = if nat_eq o.0 t then shortest_chain g l t else []
 chain_for g l p t = []
 
 -- the row of t, which ends in these ways, once it is known how: if in any, it says all of its end that K4 or K5 permits
-abbrev pub ended_by : TaskGraph → WideAssumed → Property TaskId → List WideRow → ℕ → Finals → WideRow
+abbrev pub ended_by : TaskGraph → WideAssumed → Property TaskId → List Row → ℕ → Finals → Row
 ended_by g l p rows t ends = record {
   row = record {
     ends = ends;
@@ -106,27 +106,27 @@ ended_by g l p rows t ends = record {
   asks = if some_end (has ends) then tokens_where g (λ k. end_by g l rows t (kind_left g l t) (IsRequested k)) else [];
 }
 
-abbrev pub ended_row : TaskGraph → WideAssumed → Property TaskId → List WideRow → ℕ → WideRow
+abbrev pub ended_row : TaskGraph → WideAssumed → Property TaskId → List Row → ℕ → Row
 ended_row g l p rows t = ended_by g l p rows t (ends_where (has_to_end_so g l rows t (kind_left g l t)))
 
 -- the rows with that of t as it begins, and as it ends
-abbrev pub begin_step : TaskGraph → WideAssumed → ℕ → List WideRow → List WideRow
+abbrev pub begin_step : TaskGraph → WideAssumed → ℕ → List Row → List Row
 begin_step g l t rows = slice_set rows t (begun_row g l rows t (not (wide_runs_by g l rows t (kind g t))))
 
-abbrev pub end_step : TaskGraph → WideAssumed → Property TaskId → ℕ → List WideRow → List WideRow
+abbrev pub end_step : TaskGraph → WideAssumed → Property TaskId → ℕ → List Row → List Row
 end_step g l p t rows = slice_set rows t (ended_row g l p rows t)
 
 -- the rows after a step for each of the first n tasks that passes the test: upwards, and downwards
-abbrev pub upwards : (ℕ → Bool) → (ℕ → List WideRow → List WideRow) → ℕ → List WideRow → List WideRow
+abbrev pub upwards : (ℕ → Bool) → (ℕ → List Row → List Row) → ℕ → List Row → List Row
 upwards test step zero rows = rows
 upwards test step (suc n) rows = if test n then step n (upwards test step n rows) else upwards test step n rows
 
-abbrev pub downwards : (ℕ → Bool) → (ℕ → List WideRow → List WideRow) → ℕ → List WideRow → List WideRow
+abbrev pub downwards : (ℕ → Bool) → (ℕ → List Row → List Row) → ℕ → List Row → List Row
 downwards test step zero rows = rows
 downwards test step (suc n) rows = downwards test step n (if test n then step n rows else rows)
 
 -- the rows with those of t and of all below it: parents begin before their children, and end after them
-abbrev pub family_step : TaskGraph → WideAssumed → Property TaskId → ℕ → List WideRow → List WideRow
+abbrev pub family_step : TaskGraph → WideAssumed → Property TaskId → ℕ → List Row → List Row
 family_step g l p t rows =
     end_step g l p t (downwards (is_below g t) (end_step g l p) (length g.tasks) (upwards (is_below g t) (begin_step g l) (length g.tasks) (begin_step g l t rows)))
 
@@ -136,5 +136,5 @@ is_attached_to g t None = false
 is_attached_to g t (Some p) = mem t (attached g p)
 
 -- the least rows of a leaf that assumes this and is to prove the property: family by family, in declared order
-abbrev pub least_rows : TaskGraph → WideAssumed → Property TaskId → List WideRow
+abbrev pub least_rows : TaskGraph → WideAssumed → Property TaskId → List Row
 least_rows g l p = upwards (λ t. not (is_attached_to g t (parent_of g t))) (family_step g l p) (length g.tasks) (replicate (length g.tasks) blank_row)

@@ -11,37 +11,30 @@ use Rattle.tpl_model.specs.declared.fault.CertFault.TheVariants.{Shape}
 use Rattle.tpl_model.specs.declared.claim.Property.{Property}
 use Rattle.tpl_model.specs.declared.ids.TaskId.{TaskId}
 use Rattle.tpl_model.specs.Claims.{Claim, Holds}
-use Rattle.tpl_model.specs.WiderRules.{WideRow, plain, WideAssumed, narrowed, WideTree, OnInput, OnEnd, OnWinner, WideLeaf, LeastLeaf, input_split, end_split, winner_split, widely_assumed}
+use Rattle.tpl_model.specs.Certificate.{Row, plain, Tree, OnInput, OnEnd, OnWinner, RowsLeaf, LeastLeaf}
+use Rattle.tpl_model.specs.WiderRules.{WideAssumed, narrowed, input_split, end_split, winner_split, widely_assumed}
 use Rattle.tpl_laws.specs.WideTrees.{AcceptsWideTree, WidelyAccepts}
 use Rattle.tpl_laws.specs.RowTests.{all_in}
 use Rattle.tpl_laws.specs.Soundness.{Each}
-use Rattle.tpl_laws.specs.Verdict.{or_else, unless, at_leaf, rows_fit, no_fault}
+use Rattle.tpl_laws.specs.Verdict.{or_else, unless, leaves, at_leaf, rows_fit, no_fault}
 use Rattle.tpl_laws.specs.WiderTests.{wide_leaf_fault}
 use Rattle.tpl_laws.specs.LeastRows.{least_rows}
 
--- how many leaves a tree has
-abbrev pub wide_leaves : WideTree → ℕ
-wide_leaves (OnInput i on_true on_false) = wide_leaves on_true + wide_leaves on_false
-wide_leaves (OnEnd t ran canceled faulted) = wide_leaves ran + wide_leaves canceled + wide_leaves faulted
-wide_leaves (OnWinner n x on_yes on_no) = wide_leaves on_yes + wide_leaves on_no
-wide_leaves (WideLeaf rows) = 1
-wide_leaves LeastLeaf = 1
-
 -- the first leaf that fails, where the ends that its splits left are narrowed; the tree's first leaf has this number
-abbrev pub wide_tree_fault : TaskGraph → Property TaskId → ℕ → WideAssumed → ℕ → WideTree → Option CertFault
+abbrev pub wide_tree_fault : TaskGraph → Property TaskId → ℕ → WideAssumed → ℕ → Tree → Option CertFault
 wide_tree_fault g p claim l leaf (OnInput i on_true on_false) =
-    or_else (wide_tree_fault g p claim (input_split l i true) leaf on_true) (wide_tree_fault g p claim (input_split l i false) (leaf + wide_leaves on_true) on_false)
+    or_else (wide_tree_fault g p claim (input_split l i true) leaf on_true) (wide_tree_fault g p claim (input_split l i false) (leaf + leaves on_true) on_false)
 wide_tree_fault g p claim l leaf (OnEnd t ran canceled faulted) =
     or_else (wide_tree_fault g p claim (end_split l t RanToCompletion) leaf ran)
-    (or_else (wide_tree_fault g p claim (end_split l t Canceled) (leaf + wide_leaves ran) canceled)
-    (wide_tree_fault g p claim (end_split l t Faulted) (leaf + wide_leaves ran + wide_leaves canceled) faulted))
+    (or_else (wide_tree_fault g p claim (end_split l t Canceled) (leaf + leaves ran) canceled)
+    (wide_tree_fault g p claim (end_split l t Faulted) (leaf + leaves ran + leaves canceled) faulted))
 wide_tree_fault g p claim l leaf (OnWinner n x on_yes on_no) =
-    or_else (wide_tree_fault g p claim (winner_split l n x true) leaf on_yes) (wide_tree_fault g p claim (winner_split l n x false) (leaf + wide_leaves on_yes) on_no)
-wide_tree_fault g p claim l leaf (WideLeaf rows) = at_leaf claim leaf (wide_leaf_fault g p (narrowed g l) rows)
+    or_else (wide_tree_fault g p claim (winner_split l n x true) leaf on_yes) (wide_tree_fault g p claim (winner_split l n x false) (leaf + leaves on_yes) on_no)
+wide_tree_fault g p claim l leaf (RowsLeaf rows) = at_leaf claim leaf (wide_leaf_fault g p (narrowed g l) rows)
 wide_tree_fault g p claim l leaf LeastLeaf = at_leaf claim leaf (wide_leaf_fault g p (narrowed g l) (least_rows g (narrowed g l) p))
 
 -- the first claim whose tree fails; the first claim of the list has this number
-abbrev pub wide_claims_fault : TaskGraph → ℕ → List Claim → List WideTree → Option CertFault
+abbrev pub wide_claims_fault : TaskGraph → ℕ → List Claim → List Tree → Option CertFault
 wide_claims_fault g n (claim ∷ claims) (tree ∷ trees) =
     or_else (wide_tree_fault g claim.body n (widely_assumed g claim) 1 tree) (wide_claims_fault g (suc n) claims trees)
 wide_claims_fault g n claims trees = None
@@ -51,7 +44,7 @@ abbrev pub has_tokens : TaskGraph → List ℕ → Bool
 has_tokens g ks = all_in (λ k. nat_lt k (length g.tokens)) ks
 
 -- the tokens in the rows are the graph's
-abbrev pub tokens_fit : TaskGraph → List WideRow → Bool
+abbrev pub tokens_fit : TaskGraph → List Row → Bool
 tokens_fit g [] = true
 tokens_fit g (r ∷ rows) = (has_tokens g r.asked && has_tokens g r.asks) && tokens_fit g rows
 
@@ -61,36 +54,36 @@ may_have_winner (WhenAny args) x = mem x args
 may_have_winner kind x = false
 
 -- each leaf of the tree has one row for each task, and each id in it is the graph's
-abbrev pub wide_fits : TaskGraph → WideTree → Bool
+abbrev pub wide_fits : TaskGraph → Tree → Bool
 wide_fits g (OnInput i on_true on_false) = nat_lt i g.inputs && (wide_fits g on_true && wide_fits g on_false)
 wide_fits g (OnEnd t ran canceled faulted) = nat_lt t (length g.tasks) && (wide_fits g ran && (wide_fits g canceled && wide_fits g faulted))
 wide_fits g (OnWinner n x on_yes on_no) = may_have_winner (kind g n) x && (wide_fits g on_yes && wide_fits g on_no)
-wide_fits g (WideLeaf rows) = nat_eq (length rows) (length g.tasks) && (rows_fit g (plain rows) && tokens_fit g rows)
+wide_fits g (RowsLeaf rows) = nat_eq (length rows) (length g.tasks) && (rows_fit g (plain rows) && tokens_fit g rows)
 wide_fits g LeastLeaf = true
 
 -- the first claim without a tree that fits, or tree without a claim
-abbrev pub wide_misfit : TaskGraph → ℕ → List Claim → List WideTree → Option CertFault
+abbrev pub wide_misfit : TaskGraph → ℕ → List Claim → List Tree → Option CertFault
 wide_misfit g n [] [] = None
 wide_misfit g n (claim ∷ claims) (tree ∷ trees) = unless (wide_fits g tree) (Shape n) (wide_misfit g (suc n) claims trees)
 wide_misfit g n claims trees = Some (Shape n)
 
 -- what is said of a certificate of rows with tokens: its first fault, if it has one, in the order of that of one without
-abbrev pub wide_verdict : TaskGraph → List Claim → List WideTree → Result (Unit {0}) CertFault
+abbrev pub wide_verdict : TaskGraph → List Claim → List Tree → Result (Unit {0}) CertFault
 wide_verdict g claims trees = no_fault (or_else (wide_misfit g 1 claims trees) (wide_claims_fault g 1 claims trees))
 
 -- a tree fits and has no fault just where it is accepted
 abbrev pub WideTreeIsRight : Type 0
 WideTreeIsRight =
-    (g : TaskGraph) (p : Property TaskId) (claim : ℕ) (l : WideAssumed) (leaf : ℕ) (tree : WideTree) → IsGraph g
+    (g : TaskGraph) (p : Property TaskId) (claim : ℕ) (l : WideAssumed) (leaf : ℕ) (tree : Tree) → IsGraph g
     → ((wide_fits g tree ≡ true) × (wide_tree_fault g p claim l leaf tree ≡ None)) ↔ AcceptsWideTree g p l tree
 
 -- there is no fault just where the certificate is accepted
 abbrev pub WideVerdictIsRight : Type 0
 WideVerdictIsRight =
-    (g : TaskGraph) (claims : List Claim) (trees : List WideTree) → IsGraph g → (wide_verdict g claims trees ≡ Ok tt) ↔ WidelyAccepts g claims trees
+    (g : TaskGraph) (claims : List Claim) (trees : List Tree) → IsGraph g → (wide_verdict g claims trees ≡ Ok tt) ↔ WidelyAccepts g claims trees
 
 -- where the verdict finds no fault, each claim holds in every run
 abbrev pub WideVerdictIsSound : Type 0
 WideVerdictIsSound =
-    (g : TaskGraph) (claims : List Claim) (trees : List WideTree) → IsGraph g → wide_verdict g claims trees ≡ Ok tt
+    (g : TaskGraph) (claims : List Claim) (trees : List Tree) → IsGraph g → wide_verdict g claims trees ≡ Ok tt
     → (v : List Bool) (h : List Event) → Run g v h → Each (λ claim. Holds g claim v h) claims

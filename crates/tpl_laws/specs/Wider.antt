@@ -1,11 +1,11 @@
 -- What the wider rules accept besides.
-use Rattle.std.specs.Prelude.{◌≡◌, ℕ, Bool, true, false, List}
+use Rattle.std.specs.Prelude.{◌≡◌, ℕ, Bool, true, List}
 use Rattle.tpl_model.specs.declared.finals.Final.{Final}
 use Rattle.tpl_model.specs.Graph.{TaskGraph}
 use Rattle.tpl_model.specs.declared.ids.TaskId.{TaskId}
 use Rattle.tpl_model.specs.declared.claim.Property.{Property}
 use Rattle.tpl_model.specs.Claims.{Claim}
-use Rattle.tpl_model.specs.Certificate.{Row, Tree, Assumed, Closed, Proves, Accepts}
+use Rattle.tpl_model.specs.Certificate.{PlainRow, Assumed, Closed, Proves}
 
 -- m assumes what l does, and maybe more
 pub record AssumesMore (l m : Assumed) : Type 0 where
@@ -18,5 +18,5 @@ pub record AssumesMore (l m : Assumed) : Type 0 where
 -- rows that are closed stay so where more is assumed, and prove what they did
 abbrev pub MoreIsAssumed : Type 0
 MoreIsAssumed =
-    (g : TaskGraph) (l m : Assumed) (rows : List Row) → AssumesMore l m → Closed g l rows
+    (g : TaskGraph) (l m : Assumed) (rows : List PlainRow) → AssumesMore l m → Closed g l rows
     → Closed g m rows × ((p : Property TaskId) → Proves g l rows p → Proves g m rows p)

@@ -1,6 +1,6 @@
 -- What rows that speak of tokens promise.
-use Rattle.tpl_model.specs.declared.rule_set.RuleSet.TheVariants.{Wide}
-use Rattle.std.specs.Prelude.{◌≡◌, ◌⊎◌, ℕ, Bool, true, Some, List, [], ◌∷◌, is_some, map}
+use Rattle.tpl_model.specs.declared.rule_set.RuleSet.TheVariants.{Narrow, Wide}
+use Rattle.std.specs.Prelude.{◌≡◌, ◌⊎◌, ℕ, Bool, true, Some, List, [], ◌∷◌, is_some}
 use Rattle.tpl_model.specs.declared.finals.Final.{Final}
 use Rattle.tpl_model.specs.Finals.{has}
 use Rattle.tpl_model.specs.declared.status.Label.{Label}
@@ -13,8 +13,8 @@ use Rattle.tpl_model.specs.Valid.{IsGraph}
 use Rattle.tpl_model.specs.declared.ids.TaskId.{TaskId}
 use Rattle.tpl_model.specs.declared.claim.Property.{Property}
 use Rattle.tpl_model.specs.Claims.{Claim, IsGiven, Holds}
-use Rattle.tpl_model.specs.Certificate.{Row, row, Tree, Closed, Proves, Accepts, taken}
-use Rattle.tpl_model.specs.WiderRules.{WideRow, plain, begins_with, ends_with, WideAssumed, WideAgrees, may_run, WidelyClosed, WidelyProves, WideTree, OnInput, OnEnd, OnWinner, WideLeaf, LeastLeaf, widely_assumed, as_wide, as_wide_tree}
+use Rattle.tpl_model.specs.Certificate.{row, ArePlain, Closed, Proves, AcceptsTree, Accepts, assumed_for, taken, Row, plain, Tree, OnInput, OnEnd, OnWinner, RowsLeaf, LeastLeaf}
+use Rattle.tpl_model.specs.WiderRules.{begins_with, ends_with, WideAssumed, WideAgrees, may_run, WidelyClosed, WidelyProves, widely_assumed}
 use Rattle.tpl_laws.specs.WideTrees.{AcceptsWideTree, WidelyAccepts, written}
 use Rattle.tpl_laws.specs.Soundness.{Each}
 
@@ -24,14 +24,14 @@ FactHolds g v h (IsSettled x) = Settled g v h x
 FactHolds g v h (IsRequested k) = requested g v h k ≡ true
 
 -- what the rows of a closed leaf say is true of each run that agrees with it
-pub record WideRowsHold (g : TaskGraph) (rows : List WideRow) (v : List Bool) (h : List Event) : Type 0 where
+pub record WideRowsHold (g : TaskGraph) (rows : List Row) (v : List Bool) (h : List Event) : Type 0 where
   pub ends : (t : ℕ) (f : Final) → final g v h t ≡ Some f → has (row (plain rows) t).ends f ≡ true
   pub runs : (t : ℕ) → is_some (begun h t) ≡ true → may_run rows t ≡ true
   pub end : (t : ℕ) (fact : Fact) → is_some (ending g v h t) ≡ true → ends_with rows t fact ≡ true → FactHolds g v h fact
   pub observed : (t : ℕ) → ((row (plain rows) t).chain ≡ [] → ⊥) → Complete g v h → (lb : Label) → label g v h t ≡ Some lb → seen g v h t ≡ true
 
 -- where a task begins, each fact with which its row lets it begin holds in the list before
-abbrev pub BeginHolds : TaskGraph → List WideRow → List Bool → List Event → Type 0
+abbrev pub BeginHolds : TaskGraph → List Row → List Bool → List Event → Type 0
 BeginHolds g rows v [] = Unit {0}
 BeginHolds g rows v (e ∷ h) =
     ((t : ℕ) (fact : Fact) → begun_by e.act t ≡ true → begins_with rows t fact ≡ true → FactHolds g v h fact) × BeginHolds g rows v h
@@ -39,37 +39,45 @@ BeginHolds g rows v (e ∷ h) =
 -- the rows of a leaf that is closed by the wider rules are true of each run that agrees with it
 abbrev pub WideRowsAreTrue : Type 0
 WideRowsAreTrue =
-    (g : TaskGraph) (l : WideAssumed) (rows : List WideRow) (v : List Bool) (h : List Event)
+    (g : TaskGraph) (l : WideAssumed) (rows : List Row) (v : List Bool) (h : List Event)
     → IsGraph g → WidelyClosed g l rows → Run g v h → WideAgrees g l v h → WideRowsHold g rows v h × BeginHolds g rows v h
 
 -- where a certificate of such rows is accepted, each claim holds in each run
 abbrev pub WideSoundness : Type 0
 WideSoundness =
-    (g : TaskGraph) (claims : List Claim) (certificate : List WideTree) → IsGraph g → WidelyAccepts g claims certificate
+    (g : TaskGraph) (claims : List Claim) (certificate : List Tree) → IsGraph g → WidelyAccepts g claims certificate
     → (v : List Bool) (h : List Event) → Run g v h → Each (λ claim. Holds g claim v h) claims
 
--- rows that are closed without tokens are closed by the rules with tokens too, whoever may win, and prove what they did
+-- rows that say nothing of tokens and are closed by the narrow rules are closed by the wide ones too, whoever may win,
+-- and prove what they did
 abbrev pub TokensAreMore : Type 0
 TokensAreMore =
-    (g : TaskGraph) (l : WideAssumed) (rows : List Row) → Closed g l.assumed rows
-    → WidelyClosed g l (as_wide rows) × ((p : Property TaskId) → Proves g l.assumed rows p → WidelyProves g l (as_wide rows) p)
+    (g : TaskGraph) (l : WideAssumed) (rows : List Row) → ArePlain rows → Closed g l.assumed (plain rows)
+    → WidelyClosed g l rows × ((p : Property TaskId) → Proves g l.assumed (plain rows) p → WidelyProves g l rows p)
 
 -- a certificate that is accepted by the narrow rules is accepted by the wide ones
 abbrev pub TokensAcceptMore : Type 0
 TokensAcceptMore =
-    (g : TaskGraph) (claims : List Claim) (trees : List Tree) → Accepts g claims trees → WidelyAccepts g claims (map as_wide_tree trees)
+    (g : TaskGraph) (claims : List Claim) (trees : List Tree) → Accepts g claims trees → WidelyAccepts g claims trees
 
 -- the rows are those of a leaf of the tree; a leaf without rows may have any
-abbrev pub HasRows : WideTree → List WideRow → Type 0
+abbrev pub HasRows : Tree → List Row → Type 0
 HasRows (OnInput i on_true on_false) rows = HasRows on_true rows ⊎ HasRows on_false rows
 HasRows (OnEnd t ran canceled faulted) rows = HasRows ran rows ⊎ HasRows canceled rows ⊎ HasRows faulted rows
 HasRows (OnWinner n x on_yes on_no) rows = HasRows on_yes rows ⊎ HasRows on_no rows
-HasRows (WideLeaf leaf) rows = leaf ≡ rows
+HasRows (RowsLeaf leaf) rows = leaf ≡ rows
 HasRows LeastLeaf rows = Unit {0}
 
 -- what the rows of some leaf of an accepted tree say, written or left out, is true of each run of which what may be taken as
 -- given for the claim is true
 abbrev pub SomeWideLeafIsTrue : Type 0
 SomeWideLeafIsTrue =
-    (g : TaskGraph) (claim : Claim) (tree : WideTree) (v : List Bool) (h : List Event) → IsGraph g → AcceptsWideTree g claim.body (widely_assumed g claim) tree → Run g v h → IsGiven g v h (taken Wide g claim)
-    → (rows : List WideRow) × HasRows (written g claim.body (widely_assumed g claim) tree) rows × WideRowsHold g rows v h
+    (g : TaskGraph) (claim : Claim) (tree : Tree) (v : List Bool) (h : List Event) → IsGraph g → AcceptsWideTree g claim.body (widely_assumed g claim) tree → Run g v h → IsGiven g v h (taken Wide g claim)
+    → (rows : List Row) × HasRows (written g claim.body (widely_assumed g claim) tree) rows × WideRowsHold g rows v h
+
+-- what the rows of some leaf of a tree that the narrow rules accept say is true of each run of which the claim's given is
+-- true
+abbrev pub SomeLeafIsTrue : Type 0
+SomeLeafIsTrue =
+    (g : TaskGraph) (claim : Claim) (tree : Tree) (v : List Bool) (h : List Event) → IsGraph g → AcceptsTree g claim.body (assumed_for Narrow g claim) tree → Run g v h → IsGiven g v h claim.given
+    → (rows : List Row) × HasRows tree rows × WideRowsHold g rows v h

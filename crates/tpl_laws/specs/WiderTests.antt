@@ -14,8 +14,8 @@ use Rattle.tpl_model.specs.declared.claim.Property.{Property}
 use Rattle.tpl_model.specs.declared.claim.Property.TheVariants.{Observed}
 use Rattle.tpl_model.specs.declared.fault.Rule.{Rule}
 use Rattle.tpl_model.specs.declared.fault.Rule.TheVariants.{K1, K2, K3, K6}
-use Rattle.tpl_model.specs.Certificate.{row, end_left, is_loud, may_end}
-use Rattle.tpl_model.specs.WiderRules.{WideRow, plain, wide_row, begins_with, once_ended, linked, WideAssumed, kind_left, reading, asked_of, known_at_end, known_at_start, own_among, may_run, Way, ByBody, RootDropped, ChildDropped, DroppedEarly, DroppedLate, NotAllowed, way_final, IsWidelyClosed, WidelyClosed, WidelyProves}
+use Rattle.tpl_model.specs.Certificate.{row, end_left, is_loud, may_end, Row, plain}
+use Rattle.tpl_model.specs.WiderRules.{wide_row, begins_with, once_ended, linked, WideAssumed, kind_left, reading, asked_of, known_at_end, known_at_start, own_among, may_run, Way, ByBody, RootDropped, ChildDropped, DroppedEarly, DroppedLate, NotAllowed, way_final, IsWidelyClosed, WidelyClosed, WidelyProves}
 use Rattle.tpl_laws.specs.RowTests.{implies, all_in, each_end, some_end, parent_of, by_parent, is_below, all_may_end, takes_over, faulted_view, reads, is_none, none_complete}
 use Rattle.tpl_laws.specs.ClaimTests.{proves}
 use Rattle.tpl_laws.specs.Verdict.{or_else, unless, past_rule, LeafFault, ProvesNot, breaks}
@@ -26,15 +26,15 @@ if_known None test = true
 if_known (Some known) test = test known
 
 -- each fact with which the row lets t begin passes the test
-abbrev pub each_begin : List WideRow → ℕ → (Fact → Bool) → Bool
+abbrev pub each_begin : List Row → ℕ → (Fact → Bool) → Bool
 each_begin rows t test = all_in (λ x. test (IsSettled x)) (row (plain rows) t).before && all_in (λ k. test (IsRequested k)) (wide_row rows t).asked
 
 -- each fact with which the row lets t end passes it
-abbrev pub each_ending : List WideRow → ℕ → (Fact → Bool) → Bool
+abbrev pub each_ending : List Row → ℕ → (Fact → Bool) → Bool
 each_ending rows t test = all_in (λ x. test (IsSettled x)) (row (plain rows) t).past && all_in (λ k. test (IsRequested k)) (wide_row rows t).asks
 
 -- a task that may begin has a row that runs
-abbrev pub wide_runs_by : TaskGraph → WideAssumed → List WideRow → ℕ → TaskKind → Bool
+abbrev pub wide_runs_by : TaskGraph → WideAssumed → List Row → ℕ → TaskKind → Bool
 wide_runs_by g l rows t Root = may_run rows t
 wide_runs_by g l rows t (Continues a) =
     each_end (λ f. implies (has (row (plain rows) a).ends f) (implies (allows (options g t) f) (implies (not (own_among g t (λ k. mem k (wide_row rows a).asks))) (may_run rows t))))
@@ -44,7 +44,7 @@ wide_runs_by g l rows t Child =
 wide_runs_by g l rows t kind = true
 
 -- each way in which a task of this kind may be canceled before it begins passes the test
-abbrev pub each_drop : TaskGraph → WideAssumed → List WideRow → ℕ → TaskKind → (Way → Bool) → Bool
+abbrev pub each_drop : TaskGraph → WideAssumed → List Row → ℕ → TaskKind → (Way → Bool) → Bool
 each_drop g l rows t Root test = implies (is_loud g l.assumed t) (test RootDropped)
 each_drop g l rows t Child test =
     by_parent (parent_of g t) (λ p. implies (is_loud g l.assumed t && may_run rows p) (if_known (known_at_start g l rows p t) (λ known. test (ChildDropped p known))))
@@ -55,21 +55,21 @@ each_drop g l rows t (Continues a) test =
 each_drop g l rows t kind test = true
 
 -- each way in which its body may end it does
-abbrev pub each_body_end : TaskGraph → WideAssumed → List WideRow → ℕ → (Way → Bool) → Bool
+abbrev pub each_body_end : TaskGraph → WideAssumed → List Row → ℕ → (Way → Bool) → Bool
 each_body_end g l rows t test = implies (may_run rows t) (each_end (λ f. implies (end_left l.assumed t f) (if_known (known_at_end g l rows t f) (λ known. test (ByBody f known)))))
 
 -- each way that is left to it does
-abbrev pub each_way : TaskGraph → WideAssumed → List WideRow → ℕ → (Way → Bool) → Bool
+abbrev pub each_way : TaskGraph → WideAssumed → List Row → ℕ → (Way → Bool) → Bool
 each_way g l rows t test = each_body_end g l rows t test && implies (end_left l.assumed t Canceled) (each_drop g l rows t (kind g t) test)
 
 -- its row has each of its ends
-abbrev pub wide_ends_by : TaskGraph → WideAssumed → List WideRow → ℕ → TaskKind → Bool
+abbrev pub wide_ends_by : TaskGraph → WideAssumed → List Row → ℕ → TaskKind → Bool
 wide_ends_by g l rows t (WhenAll args) = each_end (λ f. implies (end_left l.assumed t f) (implies (all_may_end (plain rows) args f) (has (row (plain rows) t).ends f)))
 wide_ends_by g l rows t (WhenAny args) = implies (end_left l.assumed t RanToCompletion) (implies (some_in (may_end (plain rows)) args) (has (row (plain rows) t).ends RanToCompletion))
 wide_ends_by g l rows t kind = each_way g l rows t (λ way. has (row (plain rows) t).ends (way_final way))
 
 -- what may be said of when it begins
-abbrev pub begin_by : TaskGraph → WideAssumed → List WideRow → ℕ → TaskKind → Fact → Bool
+abbrev pub begin_by : TaskGraph → WideAssumed → List Row → ℕ → TaskKind → Fact → Bool
 begin_by g l rows t Root fact = false
 begin_by g l rows t (Continues a) fact = once_ended rows a fact
 begin_by g l rows t Child (IsSettled x) = by_parent (parent_of g t) (λ p. mem x (row (plain rows) p).before)
@@ -82,7 +82,7 @@ own_requested g t (IsSettled x) = false
 own_requested g t (IsRequested j) = token_requested_by (task g t).token (λ k. linked g k j)
 
 -- a task that is settled when p begins
-abbrev pub settled_before : List WideRow → ℕ → Fact → Bool
+abbrev pub settled_before : List Row → ℕ → Fact → Bool
 settled_before rows p (IsSettled x) = mem x (row (plain rows) p).before
 settled_before rows p (IsRequested k) = false
 
@@ -92,13 +92,13 @@ known_there known (IsSettled x) = false
 known_there known (IsRequested k) = known.requested k
 
 -- what holds once a task of this kind may begin, besides what its row says
-abbrev pub before_begin : TaskGraph → List WideRow → ℕ → TaskKind → Fact → Bool
+abbrev pub before_begin : TaskGraph → List Row → ℕ → TaskKind → Fact → Bool
 before_begin g rows t (Continues a) fact = once_ended rows a fact
 before_begin g rows t Child fact = by_parent (parent_of g t) (λ p. settled_before rows p fact)
 before_begin g rows t kind fact = false
 
 -- a fact that holds where t ended in this way
-abbrev pub holds_by : TaskGraph → List WideRow → ℕ → TaskKind → Fact → Way → Bool
+abbrev pub holds_by : TaskGraph → List Row → ℕ → TaskKind → Fact → Way → Bool
 holds_by g rows t kind fact (ByBody f known) =
     begins_with rows t fact || (before_begin g rows t kind fact || known.later fact)
 holds_by g rows t kind fact RootDropped = own_requested g t fact
@@ -113,7 +113,7 @@ settled_below g t (IsSettled x) = is_below g t x
 settled_below g t (IsRequested k) = false
 
 -- what may be said of when it has ended
-abbrev pub end_by : TaskGraph → WideAssumed → List WideRow → ℕ → TaskKind → Fact → Bool
+abbrev pub end_by : TaskGraph → WideAssumed → List Row → ℕ → TaskKind → Fact → Bool
 end_by g l rows t (WhenAll args) fact = some_in (λ y. once_ended rows y fact) args
 end_by g l rows t (WhenAny args) fact = all_in (λ y. implies (may_end (plain rows) y) (once_ended rows y fact)) args
 end_by g l rows t kind fact = settled_below g t fact || each_way g l rows t (holds_by g rows t kind fact)
@@ -142,7 +142,7 @@ wide_chain g l t [] = true
 wide_chain g l t (x ∷ chain) = wide_links g l t (x ∷ chain)
 
 -- the first rule that the row of t breaks
-abbrev pub wide_broken : TaskGraph → WideAssumed → List WideRow → ℕ → Option Rule
+abbrev pub wide_broken : TaskGraph → WideAssumed → List Row → ℕ → Option Rule
 wide_broken g l rows t =
     unless (wide_runs_by g l rows t (kind g t)) K1
     (unless (wide_ends_by g l rows t (kind_left g l t)) K2
@@ -151,7 +151,7 @@ wide_broken g l rows t =
     (unless (wide_chain g l t (row (plain rows) t).chain) K6 None))))
 
 -- a closed leaf proves the claim
-abbrev pub wide_proves : TaskGraph → WideAssumed → List WideRow → Property TaskId → Bool
+abbrev pub wide_proves : TaskGraph → WideAssumed → List Row → Property TaskId → Bool
 wide_proves g l rows (Observed t) =
     not (is_none (row (plain rows) t.0).chain)
     || (not (has (row (plain rows) t.0).ends Faulted)
@@ -160,20 +160,20 @@ wide_proves g l rows (Observed t) =
 wide_proves g l rows p = proves g l.assumed (plain rows) p
 
 -- the first task, of n from t on, whose row breaks a rule
-abbrev pub wide_first_broken : TaskGraph → WideAssumed → List WideRow → ℕ → ℕ → Option LeafFault
+abbrev pub wide_first_broken : TaskGraph → WideAssumed → List Row → ℕ → ℕ → Option LeafFault
 wide_first_broken g l rows t zero = None
 wide_first_broken g l rows t (suc n) = or_else (breaks t (wide_broken g l rows t)) (wide_first_broken g l rows (suc t) n)
 
 -- the first fault of a leaf
-abbrev pub wide_leaf_fault : TaskGraph → Property TaskId → WideAssumed → List WideRow → Option LeafFault
+abbrev pub wide_leaf_fault : TaskGraph → Property TaskId → WideAssumed → List Row → Option LeafFault
 wide_leaf_fault g p l rows = or_else (wide_first_broken g l rows 0 (length g.tasks)) (unless (wide_proves g l rows p) ProvesNot None)
 
 -- the row of a task breaks no rule just where it keeps them all
 abbrev pub WideBrokenIsRight : Type 0
-WideBrokenIsRight = (g : TaskGraph) (l : WideAssumed) (rows : List WideRow) (t : ℕ) → IsGraph g → (wide_broken g l rows t ≡ None) ↔ IsWidelyClosed g l rows t
+WideBrokenIsRight = (g : TaskGraph) (l : WideAssumed) (rows : List Row) (t : ℕ) → IsGraph g → (wide_broken g l rows t ≡ None) ↔ IsWidelyClosed g l rows t
 
 -- a leaf has no fault just where it is closed and proves the claim
 abbrev pub WideLeafIsRight : Type 0
 WideLeafIsRight =
-    (g : TaskGraph) (p : Property TaskId) (l : WideAssumed) (rows : List WideRow) → IsGraph g
+    (g : TaskGraph) (p : Property TaskId) (l : WideAssumed) (rows : List Row) → IsGraph g
     → (wide_leaf_fault g p l rows ≡ None) ↔ (WidelyClosed g l rows × WidelyProves g l rows p)

@@ -1,16 +1,6 @@
 //! What an accepted certificate promises.
 
-ghost use Rattle.tpl_laws.specs.Prelude.{MoreIsAssumed, PlainIsAccepted, PlainIsRefused, RowsAreTrue, SomeLeafAgrees, SomeWideLeafIsTrue, SoundByRules, Soundness, TokensAcceptMore, TokensAreMore, WideRowsAreTrue, WideSoundness};
-
-/// What the rows of a closed leaf say is true of each run that agrees with the leaf.
-pub fn rows_are_true()
-    ensures { RowsAreTrue }
-{}
-
-/// Where a claim's given is true of a run so far, some leaf of its tree agrees with the run.
-pub fn some_leaf_agrees()
-    ensures { SomeLeafAgrees }
-{}
+ghost use Rattle.tpl_laws.specs.Prelude.{MoreIsAssumed, SomeLeafIsTrue, SomeWideLeafIsTrue, SoundByRules, Soundness, TokensAcceptMore, TokensAreMore, WideRowsAreTrue, WideSoundness};
 
 /// Where a certificate is accepted, each claim holds in each run.
 pub fn soundness()
@@ -42,7 +32,12 @@ pub fn tokens_accept_more()
     ensures { TokensAcceptMore }
 {}
 
-/// What the rows of some leaf of an accepted tree say is true of each run of which the claim's given is true.
+/// What the rows of some leaf of a tree that the narrow rules accept say is true of each run of which the claim's given is true.
+pub fn some_leaf_is_true()
+    ensures { SomeLeafIsTrue }
+{}
+
+/// What the rows of some leaf of a tree that the wide rules accept say is true of each run of which the claim's given is true.
 pub fn some_wide_leaf_is_true()
     ensures { SomeWideLeafIsTrue }
 {}
@@ -54,15 +49,3 @@ pub fn sound_by_rules()
     soundness();
     wide_soundness();
 }
-
-/// A certificate without tokens that is accepted is accepted as one that may have them.
-pub fn plain_is_accepted()
-    ensures { PlainIsAccepted }
-{
-    tokens_accept_more();
-}
-
-/// A certificate without tokens that isn't accepted by the narrow rules isn't accepted as one that may have them.
-pub fn plain_is_refused()
-    ensures { PlainIsRefused }
-{}

@@ -2,13 +2,13 @@
 use Rattle.std.proofs.Common.{◌≡◌, ℕ, ◌&&◌, Bool, true, List, ◌∙◌}
 use Rattle.tpl_model.specs.Members.{mem}
 use Rattle.tpl_model.specs.Knowledge.{Fact, IsSettled, IsRequested}
-use Rattle.tpl_model.specs.Certificate.{row}
-use Rattle.tpl_model.specs.WiderRules.{WideRow, plain, wide_row, ends_with}
+use Rattle.tpl_model.specs.Certificate.{row, Row, plain}
+use Rattle.tpl_model.specs.WiderRules.{wide_row, ends_with}
 use Rattle.tpl_laws.specs.RowTests.{all_in}
 use Rattle.tpl_laws.specs.WiderTests.{each_begin, each_ending}
 use Rattle.tpl_checker.proofs.Basics.{all_true, members_of_it}
 
-module _ (rows : List WideRow) (t : ℕ) (test : Fact → Bool) where
+module _ (rows : List Row) (t : ℕ) (test : Fact → Bool) where
   -- a test that each fact passes
   pub begins_all : ((f : Fact) → test f ≡ true) → each_begin rows t test ≡ true
   begins_all h = λ i. all_true (λ x. test (IsSettled x)) (row (plain rows) t).before (λ x. h (IsSettled x)) i && all_true (λ k. test (IsRequested k)) (wide_row rows t).asked (λ k. h (IsRequested k)) i

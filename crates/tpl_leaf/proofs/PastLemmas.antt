@@ -5,8 +5,8 @@ use Rattle.tpl_model.proofs.Truths.{and_assoc, and_true}
 use Rattle.tpl_model.specs.declared.ids.TaskId.{TaskId}
 use Rattle.tpl_model.specs.Knowledge.{Fact}
 use Rattle.tpl_model.specs.Graph.{some_in}
-use Rattle.tpl_model.specs.Certificate.{may_end}
-use Rattle.tpl_model.specs.WiderRules.{WideRow, plain, once_ended}
+use Rattle.tpl_model.specs.Certificate.{may_end, Row, plain}
+use Rattle.tpl_model.specs.WiderRules.{once_ended}
 use Rattle.tpl_paths.specs.declared.facts.Facts.{Facts}
 use Rattle.tpl_paths.specs.Facts.{has_fact}
 use Rattle.tpl_draft.specs.Ids.{task_number}
@@ -17,18 +17,18 @@ use Rattle.tpl_leaf.specs.Ways.{holds_in_all}
 use Rattle.tpl_leaf.proofs.Winning.{kept, left_out}
 
 -- a fact that holds once y has ended
-abbrev pub after : List WideRow → Fact → ℕ → Bool
+abbrev pub after : List Row → Fact → ℕ → Bool
 after rows f y = once_ended rows y f
 
 -- once some of the first i tasks has ended
-pub record AfterSome (n : ℕ) (rows : List WideRow) (tasks : List TaskId) (i : ℕ) (facts : Facts) : Type 0 where
+pub record AfterSome (n : ℕ) (rows : List Row) (tasks : List TaskId) (i : ℕ) (facts : Facts) : Type 0 where
   pub left : AreTasks n (drop i tasks)
   pub same : (f : Fact) → (has_fact facts f || some_in (after rows f) (map task_number (drop i tasks))) ≡ some_in (after rows f) (map task_number tasks)
 
-pub none_yet : (n : ℕ) (rows : List WideRow) (tasks : List TaskId) (facts : Facts) → AreTasks n tasks → ((f : Fact) → has_fact facts f ≡ false) → AfterSome n rows tasks 0 facts
+pub none_yet : (n : ℕ) (rows : List Row) (tasks : List TaskId) (facts : Facts) → AreTasks n tasks → ((f : Fact) → has_fact facts f ≡ false) → AfterSome n rows tasks 0 facts
 none_yet n rows tasks facts a h = record { left = a; same = λ f. ap (λ z. z || some_in (after rows f) (map task_number tasks)) (h f) }
 
-pub some_step : {n : ℕ} {rows : List WideRow} {tasks : List TaskId} {i : ℕ} {facts : Facts} (next : Facts) (d : TaskId) → i < length tasks → AfterSome n rows tasks i facts
+pub some_step : {n : ℕ} {rows : List Row} {tasks : List TaskId} {i : ℕ} {facts : Facts} (next : Facts) (d : TaskId) → i < length tasks → AfterSome n rows tasks i facts
     → ((f : Fact) → has_fact next f ≡ (has_fact facts f || once_ended rows (slice_index_or tasks i d).0 f)) → AfterSome n rows tasks (i + 1) next
 some_step {n} {rows} {tasks} {i} {facts} next d lt s h = record {
   left = tasks_left tasks i d lt n s.left;
@@ -36,15 +36,15 @@ some_step {n} {rows} {tasks} {i} {facts} next d lt s h = record {
 }
 
 -- a fact that holds once y has ended, if it may
-abbrev pub after_end : List WideRow → Fact → ℕ → Bool
+abbrev pub after_end : List Row → Fact → ℕ → Bool
 after_end rows f y = implies (may_end (plain rows) y) (once_ended rows y f)
 
 -- the facts that hold once each of the first i tasks has ended that may win
-pub record AfterEach (n : ℕ) (p : ℕ → Bool) (rows : List WideRow) (tasks : List TaskId) (i : ℕ) (facts : Option Facts) : Type 0 where
+pub record AfterEach (n : ℕ) (p : ℕ → Bool) (rows : List Row) (tasks : List TaskId) (i : ℕ) (facts : Option Facts) : Type 0 where
   pub left : AreTasks n (drop i tasks)
   pub same : (f : Fact) → (holds_in_all facts f && all_in (after_end rows f) (filter p (map task_number (drop i tasks)))) ≡ all_in (after_end rows f) (filter p (map task_number tasks))
 
-pub no_end : (n : ℕ) (p : ℕ → Bool) (rows : List WideRow) (tasks : List TaskId) → AreTasks n tasks → AfterEach n p rows tasks 0 None
+pub no_end : (n : ℕ) (p : ℕ → Bool) (rows : List Row) (tasks : List TaskId) → AreTasks n tasks → AfterEach n p rows tasks 0 None
 no_end n p rows tasks a = record { left = a; same = λ f. refl }
 
 -- a test of those in a list that pass another
@@ -55,7 +55,7 @@ filtered_all test p x xs = by_test (p x) refl
     by_test true e = ap (λ (ys : List ℕ). all_in test ys) (kept p x xs e)
     by_test false e = ap (λ (ys : List ℕ). all_in test ys) (left_out p x xs e)
 
-module _ {n : ℕ} {p : ℕ → Bool} {rows : List WideRow} {tasks : List TaskId} {i : ℕ} {facts : Option Facts} (d : TaskId) (lt : i < length tasks) (s : AfterEach n p rows tasks i facts) where
+module _ {n : ℕ} {p : ℕ → Bool} {rows : List Row} {tasks : List TaskId} {i : ℕ} {facts : Option Facts} (d : TaskId) (lt : i < length tasks) (s : AfterEach n p rows tasks i facts) where
   each_step : (b : Bool) (next : Option Facts) → b ≡ (p (slice_index_or tasks i d).0 && may_end (plain rows) (slice_index_or tasks i d).0)
       → ((f : Fact) → holds_in_all next f ≡ (holds_in_all facts f && implies b (once_ended rows (slice_index_or tasks i d).0 f))) → AfterEach n p rows tasks (i + 1) next
   each_step b next e h = record {

@@ -4,13 +4,12 @@ use Rattle.tpl_model.proofs.Truths.{same_tests, and_first, and_second}
 use Rattle.std.proofs.lemmas.Bool.{and_from}
 use Rattle.tpl_model.specs.Members.{mem}
 use Rattle.tpl_model.specs.Knowledge.{Fact, IsSettled, IsRequested}
-use Rattle.tpl_model.specs.Certificate.{row}
-use Rattle.tpl_model.specs.WiderRules.{WideRow, plain, wide_row}
+use Rattle.tpl_model.specs.Certificate.{row, Row, plain}
+use Rattle.tpl_model.specs.WiderRules.{wide_row}
 use Rattle.tpl_laws.specs.RowTests.{all_in}
-use Rattle.tpl_laws.proofs.Deciding.{of_all}
-use Rattle.tpl_laws.proofs.Deciding.{itself}
+use Rattle.tpl_laws.proofs.Deciding.{of_all, itself}
 
-pub plain_row : (rows : List WideRow) (t : ℕ) → (wide_row rows t).row ≡ row (plain rows) t
+pub plain_row : (rows : List Row) (t : ℕ) → (wide_row rows t).row ≡ row (plain rows) t
 plain_row [] t = refl
 plain_row (r ∷ rows) zero = refl
 plain_row (r ∷ rows) (suc t) = plain_row rows t

@@ -5,7 +5,7 @@ use Rattle.tpl_model.specs.declared.finals.Final.{Final}
 use Rattle.tpl_model.specs.declared.finals.Finals.{Finals}
 use Rattle.tpl_model.specs.declared.ids.TaskId.{TaskId}
 use Rattle.tpl_model.specs.Finals.{has}
-use Rattle.tpl_model.specs.Certificate.{Row, row, one_ends}
+use Rattle.tpl_model.specs.Certificate.{PlainRow, row, one_ends}
 use Rattle.tpl_draft.specs.Ids.{task_number}
 use Rattle.tpl_graph.specs.Roles.{AreTasks}
 use Rattle.tpl_checker.proofs.Basics.{or_assoc, tasks_left}
@@ -18,11 +18,11 @@ pub left_out : (p : ℕ → Bool) (x : ℕ) (xs : List ℕ) → p x ≡ false �
 left_out p x xs e = ap (λ (b : Bool). if b then (x ∷ filter p xs) else filter p xs) e
 
 -- the ends of the first i arguments that may win
-pub record EndsSoFar (n : ℕ) (p : ℕ → Bool) (rows : List Row) (tasks : List TaskId) (i : ℕ) (finals : Finals) : Type 0 where
+pub record EndsSoFar (n : ℕ) (p : ℕ → Bool) (rows : List PlainRow) (tasks : List TaskId) (i : ℕ) (finals : Finals) : Type 0 where
   pub left : AreTasks n (drop i tasks)
   pub same : (f : Final) → (has finals f || one_ends (filter p (map task_number (drop i tasks))) rows f) ≡ one_ends (filter p (map task_number tasks)) rows f
 
-module _ {n : ℕ} {p : ℕ → Bool} {rows : List Row} {tasks : List TaskId} {i : ℕ} {finals : Finals} (d : TaskId) (lt : i < length tasks) (s : EndsSoFar n p rows tasks i finals) where
+module _ {n : ℕ} {p : ℕ → Bool} {rows : List PlainRow} {tasks : List TaskId} {i : ℕ} {finals : Finals} (d : TaskId) (lt : i < length tasks) (s : EndsSoFar n p rows tasks i finals) where
   pub with_winner : (next : Finals) → p (slice_index_or tasks i d).0 ≡ true → ((f : Final) → has next f ≡ (has finals f || has (row rows (slice_index_or tasks i d).0).ends f)) → EndsSoFar n p rows tasks (i + 1) next
   with_winner next e h = record {
     left = tasks_left tasks i d lt n s.left;

@@ -4,8 +4,8 @@ use Rattle.std.specs.Option.{option_map}
 use Rattle.tpl_model.specs.Members.{mem}
 use Rattle.tpl_model.specs.Knowledge.{Fact, IsSettled, IsRequested, ChildEnd}
 use Rattle.tpl_model.specs.Graph.{TaskGraph}
-use Rattle.tpl_model.specs.Certificate.{row}
-use Rattle.tpl_model.specs.WiderRules.{WideRow, WideAssumed, plain, ends_with}
+use Rattle.tpl_model.specs.Certificate.{row, Row, plain}
+use Rattle.tpl_model.specs.WiderRules.{WideAssumed, ends_with}
 use Rattle.tpl_paths.specs.Reading.{end_of}
 use Rattle.tpl_checker.specs.declared.assumptions.Assumptions.{Assumptions}
 use Rattle.tpl_checker.specs.Assumptions.{assumed_of}
@@ -16,11 +16,11 @@ use Rattle.tpl_leaf.specs.Winners.{all_leave}
 use Rattle.tpl_leaf.specs.Links.{AreLinks}
 
 -- the facts that hold when a task has ended, and how it ends, by its row
-abbrev pub row_facts : WideRow → Fact → Bool
+abbrev pub row_facts : Row → Fact → Bool
 row_facts r (IsSettled x) = mem x r.row.past
 row_facts r (IsRequested k) = mem k r.asks
 
-abbrev pub row_end : WideRow → ChildEnd
+abbrev pub row_end : Row → ChildEnd
 row_end r = record { ends = r.row.ends; facts = row_facts r }
 
 -- what is assumed in memory, with splits on winners
@@ -33,7 +33,7 @@ graph_of leaf = leaf.graph.now.graph
 abbrev pub assumed_in : Leaf → WideAssumed
 assumed_in leaf = wide_assumed leaf.assumed.now leaf.winners.now
 
-abbrev pub rows_in : Leaf → List WideRow
+abbrev pub rows_in : Leaf → List Row
 rows_in leaf = leaf.rows.now
 
 -- the leaf has a row for each task, and what is read off graph and rows is theirs

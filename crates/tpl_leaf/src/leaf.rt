@@ -11,7 +11,7 @@ use tpl_checker::{Assumptions, Below, some_end};
 use tpl_graph::Graph;
 use tpl_model::TaskId;
 use tpl_paths::{ChildEnd, TokenSet};
-use tpl_trees::{Row, WideRow};
+use tpl_trees::{PlainRow, Row};
 
 /// A leaf that is checked: what it assumes, and a row for each task, with what is read once for all tasks: by each token
 /// those that are requested with it, by each task how it ends, and by each task those below it.
@@ -20,7 +20,7 @@ pub struct Leaf<'l> {
     pub graph: &'l Graph,
     pub assumed: &'l Assumptions,
     pub winners: &'l [WinnerSplit],
-    pub rows: &'l [WideRow],
+    pub rows: &'l [Row],
     pub linked: &'l [TokenSet],
     pub ends: &'l [ChildEnd],
     pub below: &'l Below,
@@ -28,7 +28,7 @@ pub struct Leaf<'l> {
 
 impl<'l> Leaf<'l> {
     /// The row of a task.
-    pub fn wide_row(&self, task: TaskId) -> &'l WideRow
+    pub fn wide_row(&self, task: TaskId) -> &'l Row
         requires leaf { IsLeaf self.now }
         requires task { is_task (graph_of self.now) task.0 }
         ensures { result.now ≡ wide_row (rows_in self.now) task.0 }
@@ -38,7 +38,7 @@ impl<'l> Leaf<'l> {
     }
 
     /// The row of a task, apart from tokens.
-    pub fn row(&self, task: TaskId) -> &'l Row
+    pub fn row(&self, task: TaskId) -> &'l PlainRow
         requires leaf { IsLeaf self.now }
         requires task { is_task (graph_of self.now) task.0 }
         ensures { result.now ≡ row (plain (rows_in self.now)) task.0 }

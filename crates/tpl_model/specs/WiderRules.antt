@@ -1,4 +1,4 @@
--- The wider rules for rows that speak of tokens too, and the trees of such rows.
+-- The wider rules, for rows that speak of tokens too.
 use Rattle.std.specs.Prelude.{◌≡◌, ℕ, zero, suc, ◌&&◌, ◌||◌, ◌⊎◌, not, Bool, true, false, if◌then◌else◌, Option, Some, None, List, [], ◌∷◌, map, filter, length, nat_eq, slice_index_or}
 use Rattle.tpl_model.specs.declared.finals.Final.{Final}
 use Rattle.tpl_model.specs.declared.finals.Final.TheVariants.{RanToCompletion, Canceled, Faulted}
@@ -16,34 +16,24 @@ use Rattle.tpl_model.specs.declared.claim.Property.{Property}
 use Rattle.tpl_model.specs.declared.claim.Property.TheVariants.{Observed}
 use Rattle.tpl_model.specs.Claims.{Claim}
 use Rattle.tpl_model.specs.declared.rule_set.RuleSet.TheVariants.{Wide}
-use Rattle.tpl_model.specs.Certificate.{Row, row, Tree, SplitInput, SplitEnd, Leaf, Assumed, Agrees, same, assumed_for, with_input, with_end, end_left, is_loud, subject_ends, view, IsBelow, AllMayEnd, may_end, TakesOver, Reads, NoneComplete, Proves}
-
--- a row that says of tokens too which ones are requested when the task begins, and when it has ended
-pub record WideRow : Type 0 where
-  pub row : Row
-  pub asked : List ℕ
-  pub asks : List ℕ
-
--- the rows without their tokens
-abbrev pub plain : List WideRow → List Row
-plain rows = map (λ (r : WideRow). r.row) rows
+use Rattle.tpl_model.specs.Certificate.{PlainRow, Row, row, plain, Assumed, Agrees, same, assumed_for, with_input, with_end, end_left, is_loud, subject_ends, view, IsBelow, AllMayEnd, may_end, TakesOver, Reads, NoneComplete, Proves}
 
 -- the row of the t-th task; past the last one an empty one
-abbrev pub wide_row : List WideRow → ℕ → WideRow
+abbrev pub wide_row : List Row → ℕ → Row
 wide_row rows t = slice_index_or rows t (record { row = row [] t; asked = []; asks = [] })
 
 -- the facts that hold when t begins, by its row
-abbrev pub begins_with : List WideRow → ℕ → Fact → Bool
+abbrev pub begins_with : List Row → ℕ → Fact → Bool
 begins_with rows t (IsSettled x) = mem x (row (plain rows) t).before
 begins_with rows t (IsRequested k) = mem k (wide_row rows t).asked
 
 -- the facts that hold when t has ended, by its row
-abbrev pub ends_with : List WideRow → ℕ → Fact → Bool
+abbrev pub ends_with : List Row → ℕ → Fact → Bool
 ends_with rows t (IsSettled x) = mem x (row (plain rows) t).past
 ends_with rows t (IsRequested k) = mem k (wide_row rows t).asks
 
 -- the same, and that t has ended
-abbrev pub once_ended : List WideRow → ℕ → Fact → Bool
+abbrev pub once_ended : List Row → ℕ → Fact → Bool
 once_ended rows t (IsSettled x) = nat_eq x t || mem x (row (plain rows) t).past
 once_ended rows t (IsRequested k) = mem k (wide_row rows t).asks
 
@@ -52,7 +42,7 @@ abbrev pub linked : TaskGraph → ℕ → ℕ → Bool
 linked g k j = through g (nat_eq k) j
 
 -- how the child of t ends, if it is attached
-abbrev pub child_end : TaskGraph → List WideRow → ℕ → ℕ → Option ChildEnd
+abbrev pub child_end : TaskGraph → List Row → ℕ → ℕ → Option ChildEnd
 child_end g rows t c = if mem c (attached g t) then Some (record { ends = (row (plain rows) c).ends; facts = ends_with rows c }) else None
 
 -- what a leaf assumes, and which arguments of a WhenAny task may win it
@@ -75,28 +65,28 @@ abbrev pub kind_left : TaskGraph → WideAssumed → ℕ → TaskKind
 kind_left g l t = with_winners (l.wins t) (kind g t)
 
 -- how the subject of a task of this kind may have ended, behind WhenAny by the row of an argument that may win
-abbrev pub subject_left : TaskGraph → WideAssumed → List WideRow → ℕ → TaskKind → Final → Bool
+abbrev pub subject_left : TaskGraph → WideAssumed → List Row → ℕ → TaskKind → Final → Bool
 subject_left g l rows t (Continues a) f = subject_ends (kind_left g l a) (options g t) a (plain rows) f
 subject_left g l rows t kind f = false
 
 -- what is known of the runs in which the body of t is read
-abbrev pub wide_view : TaskGraph → WideAssumed → List WideRow → ℕ → Known
+abbrev pub wide_view : TaskGraph → WideAssumed → List Row → ℕ → Known
 wide_view g l rows t = record (view g l.assumed (plain rows) t) { subject = subject_left g l rows t (kind g t) }
 
 -- how the body of t is read
-abbrev pub reading : TaskGraph → WideAssumed → List WideRow → ℕ → Reading
+abbrev pub reading : TaskGraph → WideAssumed → List Row → ℕ → Reading
 reading g l rows t = record { known = wide_view g l rows t; linked = linked g; child = child_end g rows t }
 
 -- the tokens that t knows when it begins
-abbrev pub asked_of : List WideRow → ℕ → ℕ → Bool
+abbrev pub asked_of : List Row → ℕ → ℕ → Bool
 asked_of rows t k = mem k (wide_row rows t).asked
 
 -- what the paths of t have in common that end it so
-abbrev pub known_at_end : TaskGraph → WideAssumed → List WideRow → ℕ → Final → Option Knowledge
+abbrev pub known_at_end : TaskGraph → WideAssumed → List Row → ℕ → Final → Option Knowledge
 known_at_end g l rows t f = at_end f (reading g l rows t) (asked_of rows t) (body g t)
 
 -- what the paths of p have in common where they start c
-abbrev pub known_at_start : TaskGraph → WideAssumed → List WideRow → ℕ → ℕ → Option Knowledge
+abbrev pub known_at_start : TaskGraph → WideAssumed → List Row → ℕ → ℕ → Option Knowledge
 known_at_start g l rows p c = at_start c (reading g l rows p) (asked_of rows p) (body g p)
 
 -- the own token of t is among these
@@ -104,11 +94,11 @@ abbrev pub own_among : TaskGraph → ℕ → (ℕ → Bool) → Bool
 own_among g t tokens = token_requested_by (task g t).token tokens
 
 -- the row of t says that it may begin
-abbrev pub may_run : List WideRow → ℕ → Bool
+abbrev pub may_run : List Row → ℕ → Bool
 may_run rows t = (row (plain rows) t).runs
 
 -- K1: a task that may begin has a row that runs. It doesn't begin where its own token is known to be requested
-abbrev pub WideRunsRule : TaskGraph → WideAssumed → List WideRow → ℕ → TaskKind → Type 0
+abbrev pub WideRunsRule : TaskGraph → WideAssumed → List Row → ℕ → TaskKind → Type 0
 WideRunsRule g l rows t Root = may_run rows t ≡ true
 WideRunsRule g l rows t (Continues a) =
     (f : Final) → has (row (plain rows) a).ends f ≡ true → allows (options g t) f ≡ true
@@ -135,7 +125,7 @@ way_final (ByBody f known) = f
 way_final way = Canceled
 
 -- a task of this kind may end in this way
-abbrev pub MayEndBy : TaskGraph → WideAssumed → List WideRow → ℕ → TaskKind → Way → Type 0
+abbrev pub MayEndBy : TaskGraph → WideAssumed → List Row → ℕ → TaskKind → Way → Type 0
 MayEndBy g l rows t kind (ByBody f known) = (may_run rows t ≡ true) × (known_at_end g l rows t f ≡ Some known)
 MayEndBy g l rows t Root RootDropped = is_loud g l.assumed t ≡ true
 MayEndBy g l rows t Child (ChildDropped p known) =
@@ -146,7 +136,7 @@ MayEndBy g l rows t (Continues a) NotAllowed = (f : Final) × (has (row (plain r
 MayEndBy g l rows t kind way = ⊥
 
 -- a way that what is assumed leaves to t
-abbrev pub IsWay : TaskGraph → WideAssumed → List WideRow → ℕ → Way → Type 0
+abbrev pub IsWay : TaskGraph → WideAssumed → List Row → ℕ → Way → Type 0
 IsWay g l rows t way = (end_left l.assumed t (way_final way) ≡ true) × MayEndBy g l rows t (kind g t) way
 
 -- the own token of t is requested, and with it those that are linked to it
@@ -155,7 +145,7 @@ OwnRequested g t (IsSettled x) = ⊥
 OwnRequested g t (IsRequested j) = token_requested_by (task g t).token (λ k. linked g k j) ≡ true
 
 -- a task that is settled when p begins
-abbrev pub SettledBefore : List WideRow → ℕ → Fact → Type 0
+abbrev pub SettledBefore : List Row → ℕ → Fact → Type 0
 SettledBefore rows p (IsSettled x) = mem x (row (plain rows) p).before ≡ true
 SettledBefore rows p (IsRequested k) = ⊥
 
@@ -165,13 +155,13 @@ KnownThere known (IsSettled x) = ⊥
 KnownThere known (IsRequested k) = known.requested k ≡ true
 
 -- what holds once a task of this kind may begin, besides what its row says
-abbrev pub BeforeBegin : TaskGraph → List WideRow → ℕ → TaskKind → Fact → Type 0
+abbrev pub BeforeBegin : TaskGraph → List Row → ℕ → TaskKind → Fact → Type 0
 BeforeBegin g rows t (Continues a) fact = once_ended rows a fact ≡ true
 BeforeBegin g rows t Child fact = (p : ℕ) → IsParent g p t → SettledBefore rows p fact
 BeforeBegin g rows t kind fact = ⊥
 
 -- a fact that holds where t ended in this way
-abbrev pub HoldsBy : TaskGraph → List WideRow → ℕ → TaskKind → Fact → Way → Type 0
+abbrev pub HoldsBy : TaskGraph → List Row → ℕ → TaskKind → Fact → Way → Type 0
 HoldsBy g rows t kind fact (ByBody f known) =
     (begins_with rows t fact ≡ true) ⊎ BeforeBegin g rows t kind fact ⊎ (known.later fact ≡ true)
 HoldsBy g rows t kind fact RootDropped = OwnRequested g t fact
@@ -181,7 +171,7 @@ HoldsBy g rows t kind fact DroppedLate = OwnRequested g t fact ⊎ BeforeBegin g
 HoldsBy g rows t kind fact NotAllowed = BeforeBegin g rows t kind fact
 
 -- K2: how a task may end, its row has among its ends
-abbrev pub WideEndsRule : TaskGraph → WideAssumed → List WideRow → ℕ → TaskKind → Type 0
+abbrev pub WideEndsRule : TaskGraph → WideAssumed → List Row → ℕ → TaskKind → Type 0
 WideEndsRule g l rows t (WhenAll args) =
     (f : Final) → end_left l.assumed t f ≡ true → AllMayEnd (plain rows) args f → has (row (plain rows) t).ends f ≡ true
 WideEndsRule g l rows t (WhenAny args) =
@@ -189,7 +179,7 @@ WideEndsRule g l rows t (WhenAny args) =
 WideEndsRule g l rows t kind = (way : Way) → IsWay g l rows t way → has (row (plain rows) t).ends (way_final way) ≡ true
 
 -- K3: what a row may say of when a task begins
-abbrev pub BeginRule : TaskGraph → WideAssumed → List WideRow → ℕ → TaskKind → Fact → Type 0
+abbrev pub BeginRule : TaskGraph → WideAssumed → List Row → ℕ → TaskKind → Fact → Type 0
 BeginRule g l rows t Root fact = ⊥
 BeginRule g l rows t (Continues a) fact = once_ended rows a fact ≡ true
 BeginRule g l rows t Child (IsSettled x) = (p : ℕ) → IsParent g p t → mem x (row (plain rows) p).before ≡ true
@@ -203,7 +193,7 @@ SettledBelow g t (IsSettled x) = IsBelow g t x
 SettledBelow g t (IsRequested k) = ⊥
 
 -- K4 and, for WhenAll and WhenAny, K5: what a row may say of when a task has ended
-abbrev pub EndRule : TaskGraph → WideAssumed → List WideRow → ℕ → TaskKind → Fact → Type 0
+abbrev pub EndRule : TaskGraph → WideAssumed → List Row → ℕ → TaskKind → Fact → Type 0
 EndRule g l rows t (WhenAll args) fact = (y : ℕ) × (mem y args ≡ true) × (once_ended rows y fact ≡ true)
 EndRule g l rows t (WhenAny args) fact = (y : ℕ) → mem y args ≡ true → may_end (plain rows) y ≡ true → once_ended rows y fact ≡ true
 EndRule g l rows t kind fact = SettledBelow g t fact ⊎ ((way : Way) → IsWay g l rows t way → HoldsBy g rows t kind fact way)
@@ -214,7 +204,7 @@ IsWonBy (WhenAny args) y = (mem y args ≡ true) × ((x : ℕ) → mem x args �
 IsWonBy kind y = ⊥
 
 -- r, a task of this kind, continues a WhenAny task that y alone may win, and reads y's exception wherever y is faulted
-abbrev pub ReadsWinner : TaskGraph → WideAssumed → List WideRow → ℕ → ℕ → TaskKind → Type 0
+abbrev pub ReadsWinner : TaskGraph → WideAssumed → List Row → ℕ → ℕ → TaskKind → Type 0
 ReadsWinner g l rows r y (Continues n) =
     IsWonBy (kind_left g l n) y
     × (allows (options g r) RanToCompletion ≡ true)
@@ -224,18 +214,18 @@ ReadsWinner g l rows r y kind = ⊥
 
 -- the tasks of a chain from y on take its exception over, one after another, and the last one reads it, itself or
 -- behind WhenAny
-abbrev pub WideLinks : TaskGraph → WideAssumed → List WideRow → ℕ → List ℕ → Type 0
+abbrev pub WideLinks : TaskGraph → WideAssumed → List Row → ℕ → List ℕ → Type 0
 WideLinks g l rows y [] = ⊥
 WideLinks g l rows y (x ∷ []) = Reads g l.assumed (plain rows) x y ⊎ ReadsWinner g l rows x y (kind g x)
 WideLinks g l rows y (x ∷ z ∷ zs) = TakesOver g x y × WideLinks g l rows x (z ∷ zs)
 
 -- K6: a chain is empty or leads from t to its reader
-abbrev pub WideChainRule : TaskGraph → WideAssumed → List WideRow → ℕ → List ℕ → Type 0
+abbrev pub WideChainRule : TaskGraph → WideAssumed → List Row → ℕ → List ℕ → Type 0
 WideChainRule g l rows t [] = Unit {0}
 WideChainRule g l rows t (x ∷ chain) = WideLinks g l rows t (x ∷ chain)
 
 -- the rules for the row of one task: runs is K1, ends K2, begin K3, end K4 and K5, chain K6
-pub record IsWidelyClosed (g : TaskGraph) (l : WideAssumed) (rows : List WideRow) (t : ℕ) : Type 0 where
+pub record IsWidelyClosed (g : TaskGraph) (l : WideAssumed) (rows : List Row) (t : ℕ) : Type 0 where
   pub runs : WideRunsRule g l rows t (kind g t)
   pub ends : WideEndsRule g l rows t (kind_left g l t)
   pub begin : may_run rows t ≡ true → (fact : Fact) → begins_with rows t fact ≡ true → BeginRule g l rows t (kind g t) fact
@@ -243,11 +233,11 @@ pub record IsWidelyClosed (g : TaskGraph) (l : WideAssumed) (rows : List WideRow
   pub chain : WideChainRule g l rows t (row (plain rows) t).chain
 
 -- a leaf is closed
-abbrev pub WidelyClosed : TaskGraph → WideAssumed → List WideRow → Type 0
+abbrev pub WidelyClosed : TaskGraph → WideAssumed → List Row → Type 0
 WidelyClosed g l rows = (t : ℕ) → is_task g t → IsWidelyClosed g l rows t
 
 -- a closed leaf proves a claim
-abbrev pub WidelyProves : TaskGraph → WideAssumed → List WideRow → Property TaskId → Type 0
+abbrev pub WidelyProves : TaskGraph → WideAssumed → List Row → Property TaskId → Type 0
 WidelyProves g l rows (Observed t) =
     ((row (plain rows) t.0).chain ≡ [] → ⊥)
     ⊎ (has (row (plain rows) t.0).ends Faulted ≡ false)
@@ -285,18 +275,9 @@ AllTokens g [] = Unit {0}
 AllTokens g (k ∷ ks) = is_token g k × AllTokens g ks
 
 -- each token in the rows is the graph's
-abbrev pub TokensOfRows : TaskGraph → List WideRow → Type 0
+abbrev pub TokensOfRows : TaskGraph → List Row → Type 0
 TokensOfRows g [] = Unit {0}
 TokensOfRows g (r ∷ rows) = AllTokens g r.asked × AllTokens g r.asks × TokensOfRows g rows
-
--- a tree: splits on an input, on how a task ends or on whether an argument wins a WhenAny task, and leaves with a row
--- for each task, or without rows, which has the least ones
-pub data WideTree : Type 0 where
-  OnInput : (input : ℕ) → (on_true : WideTree) → (on_false : WideTree) → WideTree
-  OnEnd : (task : ℕ) → (ran : WideTree) → (canceled : WideTree) → (faulted : WideTree) → WideTree
-  OnWinner : (task : ℕ) → (argument : ℕ) → (on_yes : WideTree) → (on_no : WideTree) → WideTree
-  WideLeaf : (rows : List WideRow) → WideTree
-  LeastLeaf : WideTree
 
 -- on a branch of a split on an input, on how t ends, and on whether x wins n
 abbrev pub input_split : WideAssumed → ℕ → Bool → WideAssumed
@@ -316,13 +297,3 @@ MayHaveWinner kind x = ⊥
 -- what a certificate of such rows assumes for a claim, before its splits: each argument may win
 abbrev pub widely_assumed : TaskGraph → Claim → WideAssumed
 widely_assumed g claim = record { assumed = assumed_for Wide g claim; wins = λ n x. true }
-
--- rows that say nothing of tokens
-abbrev pub as_wide : List Row → List WideRow
-as_wide rows = map (λ (r : Row). record { row = r; asked = []; asks = [] }) rows
-
--- a tree of them
-abbrev pub as_wide_tree : Tree → WideTree
-as_wide_tree (SplitInput i on_true on_false) = OnInput i (as_wide_tree on_true) (as_wide_tree on_false)
-as_wide_tree (SplitEnd t ran canceled faulted) = OnEnd t (as_wide_tree ran) (as_wide_tree canceled) (as_wide_tree faulted)
-as_wide_tree (Leaf rows) = WideLeaf (as_wide rows)

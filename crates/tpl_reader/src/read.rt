@@ -9,7 +9,7 @@ ghost use Rattle.tpl_model.specs.Prelude.{is_task};
 ghost use Rattle.tpl_parts.specs.Prelude.{claim_of, rules_since, start_of};
 ghost use Rattle.tpl_reader.specs.Prelude.{HasNoOthers, IsDocument, IsFault, IsRefused, Reads, Spells, begin_in, claims_for, doc_of, ends_in, journal_in, longest, most_claims, spelled_of, spelled_with, trees_by, trees_in, value_of};
 ghost use Rattle.tpl_reader.specs.declared.fault.ReadFault.TheVariants.{Memory};
-ghost use Rattle.tpl_trees.specs.Prelude.{IsWithinLimits, IsWithinWideLimits};
+ghost use Rattle.tpl_trees.specs.Prelude.{IsWithinLimits};
 
 use crate::asked::claims_in;
 use crate::begin::begin_in;
@@ -26,7 +26,7 @@ use tpl_graph::{Claim, Graph};
 use tpl_json::{Miss, NotRead, value_from};
 use tpl_model::{Final, MOST_CLAIMS, MOST_EARLY_CLAIMS, TaskId};
 use tpl_parts::{NamedClaim, Version};
-use tpl_trees::{Certificate, WideCertificate};
+use tpl_trees::{Certificate};
 
 /// The most bytes of a document (this program's own limit).
 pub const LONGEST: usize = 16_777_216;
@@ -115,7 +115,7 @@ fn rest_of(
     ensures others { IfOk result (λ r. HasNoOthers (rules_since version) r.trees.plain.items
         r.trees.wide.items) }
     ensures plain { IfOk result (λ r. All IsWithinLimits r.trees.plain.items) }
-    ensures wide { IfOk result (λ r. All IsWithinWideLimits r.trees.wide.items) }
+    ensures wide { IfOk result (λ r. All IsWithinLimits r.trees.wide.items) }
     ensures journal { IfOk result (λ r. string_bytes r.journal
         ≡ journal_in version named.now.journal.now) }
     ensures start { IfOk result (λ r. begin_in graph.now (option_map start_of named.now.start)
@@ -160,7 +160,7 @@ fn document_of(alloc: Global, shaped: Shaped) -> Result<Document, ReadFault>
         claims: rest.claims,
         names: rest.names,
         certificate: Certificate::new(rest.trees.plain),
-        wide: WideCertificate::new(rest.trees.wide),
+        wide: Certificate::new(rest.trees.wide),
         journal: rest.journal,
         start: rest.start,
         ended: rest.ended,

@@ -2,10 +2,10 @@
 
 ghost use Rattle.std.specs.Prelude.{◌≡◌, map, IfOk, All};
 ghost use Rattle.tpl_json.specs.Prelude.{Yields, view};
-ghost use Rattle.tpl_model.specs.Prelude.{as_wide_tree};
+ghost use Rattle.tpl_model.specs.Prelude.{};
 ghost use Rattle.tpl_model.specs.declared.rule_set.RuleSet.TheVariants.{Narrow, Wide};
 ghost use Rattle.tpl_reader.specs.Prelude.{HasNoOthers, numbered_tree, trees_by, trees_in};
-ghost use Rattle.tpl_trees.specs.Prelude.{IsWithinLimits, IsWithinWideLimits};
+ghost use Rattle.tpl_trees.specs.Prelude.{IsWithinLimits};
 
 use json::Value;
 use std::alloc::Global;
@@ -13,13 +13,13 @@ use tpl_cert::{TreeFault, tree_from, wide_tree_from};
 use tpl_graph::Graph;
 use tpl_json::{Miss, read_each};
 use tpl_model::RuleSet;
-use tpl_trees::{Tree, WideTree};
+use tpl_trees::{Tree};
 
 /// The trees of a document: of one sort or the other, by the rules of its version.
 #[derive(Drop)]
 pub(crate) struct Trees {
     pub(crate) plain: Vec<Tree>,
-    pub(crate) wide: Vec<WideTree>,
+    pub(crate) wide: Vec<Tree>,
 }
 
 /// The tree that was read, or what is wrong with it beside its number.
@@ -56,10 +56,10 @@ fn wide_trees_in(
     alloc: Global,
     graph: &Graph,
     values: &[Value<'_>],
-) -> Result<Vec<WideTree>, Miss<(usize, TreeFault)>>
+) -> Result<Vec<Tree>, Miss<(usize, TreeFault)>>
     ensures yields { Yields (λ v. v.items) result
         (trees_in Wide graph.now.names (map view values.now)) }
-    ensures limits { IfOk result (λ v. All IsWithinWideLimits v.items) }
+    ensures limits { IfOk result (λ v. All IsWithinLimits v.items) }
 {
     read_each(
         alloc,
@@ -79,7 +79,7 @@ pub(crate) fn trees_in(
         (trees_in rules graph.now.names (map view values.now)) }
     ensures others { IfOk result (λ t. HasNoOthers rules t.plain.items t.wide.items) }
     ensures plain { IfOk result (λ t. All IsWithinLimits t.plain.items) }
-    ensures wide { IfOk result (λ t. All IsWithinWideLimits t.wide.items) }
+    ensures wide { IfOk result (λ t. All IsWithinLimits t.wide.items) }
 {
     match rules {
         RuleSet::Narrow => {

@@ -7,13 +7,13 @@ use tpl_causes::name;
 use tpl_graph::{Graph, Role};
 use tpl_model::{RuleSet, TaskId};
 use tpl_reader::Document;
-use tpl_trees::{Node, Row, Tree, WideNode, WideRow, WideTree};
+use tpl_trees::{Node, PlainRow, Tree, Row};
 
 /// The rows of a leaf; since version 3 they speak of tokens too, or are left out.
 #[derive(Clone, Copy)]
 pub(crate) enum Rows<'d> {
-    Plain(&'d [Row]),
-    Wide(&'d [WideRow]),
+    Plain(&'d [PlainRow]),
+    Wide(&'d [Row]),
     Least,
 }
 
@@ -35,7 +35,7 @@ impl<'d> Rows<'d> {
     }
 
     /// What the row of the task says besides of its tokens.
-    fn row(self, task: TaskId) -> Option<&'d Row> {
+    fn row(self, task: TaskId) -> Option<&'d PlainRow> {
         match self {
             Rows::Plain(rows) => rows.get(task.0 as usize),
             Rows::Wide(rows) => match rows.get(task.0 as usize) {
@@ -79,24 +79,24 @@ fn add_plain<'d>(parts: &mut Parts<'d>, tree: &'d Tree) -> Result<(), AllocError
 }
 
 /// Adds the leaves and the winners of a tree of version 3.
-fn add_wide<'d>(parts: &mut Parts<'d>, tree: &'d WideTree) -> Result<(), AllocError> {
+fn add_wide<'d>(parts: &mut Parts<'d>, tree: &'d Tree) -> Result<(), AllocError> {
     match tree.node() {
-        WideNode::SplitInput(_, on_true, on_false) => {
+        Node::SplitInput(_, on_true, on_false) => {
             add_wide(parts, on_true)?;
             add_wide(parts, on_false)
         }
-        WideNode::SplitEnd(_, ran, canceled, faulted) => {
+        Node::SplitEnd(_, ran, canceled, faulted) => {
             add_wide(parts, ran)?;
             add_wide(parts, canceled)?;
             add_wide(parts, faulted)
         }
-        WideNode::SplitWinner(task, argument, on_yes, on_no) => {
+        Node::SplitWinner(task, argument, on_yes, on_no) => {
             parts.winners.push((*task, *argument))?;
             add_wide(parts, on_yes)?;
             add_wide(parts, on_no)
         }
-        WideNode::Leaf(rows) => Ok(parts.leaves.push(Rows::Wide(rows.as_slice()))?),
-        WideNode::Least => Ok(parts.leaves.push(Rows::Least)?),
+        Node::Leaf(rows) => Ok(parts.leaves.push(Rows::Wide(rows.as_slice()))?),
+        Node::Least => Ok(parts.leaves.push(Rows::Least)?),
     }
 }
 

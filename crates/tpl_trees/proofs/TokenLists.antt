@@ -7,7 +7,7 @@ use Rattle.tpl_model.specs.Members.{mem}
 use Rattle.tpl_model.specs.TaskSet.{passing_from}
 use Rattle.tpl_paths.specs.declared.token_set.TokenSet.{TokenSet}
 use Rattle.tpl_paths.specs.TokenSet.{has_token}
-use Rattle.tpl_trees.specs.WideCoding.{tokens_in}
+use Rattle.tpl_trees.specs.Coding.{tokens_in}
 use Rattle.tpl_trees.specs.Sets.{as_set, IsSet}
 
 passing_same : (p q : ℕ → Bool) (low n : ℕ) → ((x : ℕ) → p x ≡ q x) → passing_from p low n ≡ passing_from q low n

@@ -19,11 +19,10 @@ use Rattle.tpl_model.specs.Valid.{IsGraph}
 use Rattle.tpl_model.specs.Claims.{Claim}
 use Rattle.tpl_model.specs.declared.rule_set.RuleSet.{RuleSet}
 use Rattle.tpl_model.specs.declared.rule_set.RuleSet.TheVariants.{Narrow, Wide}
-use Rattle.tpl_model.specs.Certificate.{Tree, Accepts}
-use Rattle.tpl_model.specs.WiderRules.{LeastLeaf, WideTree, as_wide_tree}
+use Rattle.tpl_model.specs.Certificate.{Tree, Accepts, LeastLeaf}
 use Rattle.tpl_laws.specs.ByRules.{AcceptsBy, SoundByRules}
 use Rattle.tpl_laws.specs.WideTrees.{WidelyAccepts}
-use Rattle.tpl_trees.specs.WideHeights.{wide_height}
+use Rattle.tpl_trees.specs.Heights.{height}
 use Rattle.tpl_verify.specs.declared.verdict.Verdict.{Verdict}
 use Rattle.tpl_verify.specs.declared.verdict.Verdict.TheVariants as verdict
 use Rattle.std.proofs.lemmas.List.{take_more}
@@ -36,38 +35,38 @@ one_plain g claim [] accepted = absurd accepted
 one_plain g claim (tree ∷ []) accepted = refl
 one_plain g claim (tree ∷ other ∷ rest) accepted = absurd accepted.1
 
-one_wide : (g : TaskGraph) (claim : Claim) (trees : List WideTree) → WidelyAccepts g (claim ∷ []) trees → length trees ≡ 1
+one_wide : (g : TaskGraph) (claim : Claim) (trees : List Tree) → WidelyAccepts g (claim ∷ []) trees → length trees ≡ 1
 one_wide g claim [] accepted = absurd accepted
 one_wide g claim (tree ∷ []) accepted = refl
 one_wide g claim (tree ∷ other ∷ rest) accepted = absurd accepted.1
 
-one_tree-of : (rules : RuleSet) (g : TaskGraph) (claim : Claim) (trees : List WideTree) → AcceptsBy rules g (claim ∷ []) trees → length trees ≡ 1
-one_tree-of Narrow g claim trees accepted = subst (λ (ts : List WideTree). length ts ≡ 1) (sym accepted.1) (one_plain g claim accepted.0 accepted.2)
+one_tree-of : (rules : RuleSet) (g : TaskGraph) (claim : Claim) (trees : List Tree) → AcceptsBy rules g (claim ∷ []) trees → length trees ≡ 1
+one_tree-of Narrow g claim trees accepted = subst (λ (ts : List Tree). length ts ≡ 1) (sym accepted.1) (one_plain g claim accepted.0 accepted.2)
 one_tree-of Wide g claim trees accepted = one_wide g claim trees accepted
 
-only : (rules : RuleSet) (g : TaskGraph) (claim : Claim) (trees : List WideTree) (n : ℕ) → length trees ≡ 1 → AcceptsBy rules g (claim ∷ []) trees → ((tree : WideTree) → trees ≡ tree ∷ [] → n ≡ wide_height tree) → IsCertified rules g claim n
+only : (rules : RuleSet) (g : TaskGraph) (claim : Claim) (trees : List Tree) (n : ℕ) → length trees ≡ 1 → AcceptsBy rules g (claim ∷ []) trees → ((tree : Tree) → trees ≡ tree ∷ [] → n ≡ height tree) → IsCertified rules g claim n
 only rules g claim [] n one accepted splits = absurd (omega arith)
 only rules g claim (tree ∷ []) n one accepted splits = record { tree = tree; accepted = accepted; splits = sym (splits tree refl) }
 only rules g claim (tree ∷ other ∷ rest) n one accepted splits = absurd (omega arith)
 
 -- what is accepted for a list of one claim is accepted for the claim
-for_one : (rules : RuleSet) (g : TaskGraph) (claim : Claim) (claims : List Claim) (trees : List WideTree) → claims ≡ claim ∷ [] → AcceptsBy rules g claims trees → AcceptsBy rules g (claim ∷ []) trees
+for_one : (rules : RuleSet) (g : TaskGraph) (claim : Claim) (claims : List Claim) (trees : List Tree) → claims ≡ claim ∷ [] → AcceptsBy rules g claims trees → AcceptsBy rules g (claim ∷ []) trees
 for_one rules g claim claims trees e accepted = subst (λ (z : List Claim). AcceptsBy rules g z trees) e accepted
 
-pub certified : (rules : RuleSet) (g : TaskGraph) (claim : Claim) (claims : List Claim) (trees : List WideTree) (n : ℕ) → claims ≡ claim ∷ [] → AcceptsBy rules g claims trees → ((tree : WideTree) → trees ≡ tree ∷ [] → n ≡ wide_height tree) → IsCertified rules g claim n
+pub certified : (rules : RuleSet) (g : TaskGraph) (claim : Claim) (claims : List Claim) (trees : List Tree) (n : ℕ) → claims ≡ claim ∷ [] → AcceptsBy rules g claims trees → ((tree : Tree) → trees ≡ tree ∷ [] → n ≡ height tree) → IsCertified rules g claim n
 certified rules g claim claims trees n e accepted splits =
     let one = for_one rules g claim claims trees e accepted in
     only rules g claim trees n (one_tree-of rules g claim trees one) one splits
 
-pub one_tree : (rules : RuleSet) (g : TaskGraph) (claim : Claim) (claims : List Claim) (trees : List WideTree) → claims ≡ claim ∷ [] → AcceptsBy rules g claims trees → length trees ≡ 1
+pub one_tree : (rules : RuleSet) (g : TaskGraph) (claim : Claim) (claims : List Claim) (trees : List Tree) → claims ≡ claim ∷ [] → AcceptsBy rules g claims trees → length trees ≡ 1
 one_tree rules g claim claims trees e accepted = one_tree-of rules g claim trees (for_one rules g claim claims trees e accepted)
 
 -- the only tree has at most as many splits as each may have
-pub shallow : (trees : List WideTree) (n depth : ℕ) → length trees ≡ 1 → ((tree : WideTree) → trees ≡ tree ∷ [] → n ≡ wide_height tree) → All (λ tree. wide_height tree ≤ depth) trees → n ≤ depth
+pub shallow : (trees : List Tree) (n depth : ℕ) → length trees ≡ 1 → ((tree : Tree) → trees ≡ tree ∷ [] → n ≡ height tree) → All (λ tree. height tree ≤ depth) trees → n ≤ depth
 shallow [] n depth one splits all = absurd (omega arith)
 shallow (tree ∷ []) n depth one splits all =
     let e = splits tree refl in
-    let le : wide_height tree ≤ depth = all 0 tree (omega arith) in
+    let le : height tree ≤ depth = all 0 tree (omega arith) in
     omega (arith, e, le)
 shallow (tree ∷ other ∷ rest) n depth one splits all = absurd (omega arith)
 
@@ -77,7 +76,7 @@ likewise P other given body e f so =
     subst (λ (x : List Given). P (under x body)) e (subst (λ (p : Property TaskId). P (under other.given p)) f so)
 
 -- its claim holds in each run
-pub always : (rules : RuleSet) (g : TaskGraph) (claim : Claim) (claims : List Claim) (trees : List WideTree) → SoundByRules → IsGraph g → claims ≡ claim ∷ [] → AcceptsBy rules g claims trees → HoldsAlways g claim
+pub always : (rules : RuleSet) (g : TaskGraph) (claim : Claim) (claims : List Claim) (trees : List Tree) → SoundByRules → IsGraph g → claims ≡ claim ∷ [] → AcceptsBy rules g claims trees → HoldsAlways g claim
 always rules g claim claims trees sound is e accepted v h run = (sound rules g (claim ∷ []) trees is (for_one rules g claim claims trees e accepted) v h run).0
 
 -- the tree without a split is accepted for the claim: it is certified

@@ -15,11 +15,10 @@ use Rattle.tpl_model.specs.Graph.{TaskGraph, body, kind, task}
 use Rattle.tpl_model.specs.Rules.{Run, Complete, label}
 use Rattle.tpl_model.specs.Claims.{Claim, IsGiven, Holds}
 use Rattle.tpl_model.specs.declared.rule_set.RuleSet.{RuleSet}
-use Rattle.tpl_model.specs.Certificate.{assumed}
-use Rattle.tpl_model.specs.WiderRules.{WideTree}
+use Rattle.tpl_model.specs.Certificate.{assumed, Tree}
 use Rattle.tpl_graph.specs.Fits.{Fits, has_body}
 use Rattle.tpl_laws.specs.ByRules.{AcceptsBy}
-use Rattle.tpl_trees.specs.WideHeights.{wide_height}
+use Rattle.tpl_trees.specs.Heights.{height}
 use Rattle.tpl_refute.specs.Refuting.{Refutes}
 use Rattle.tpl_verify.specs.declared.verdict.Empty.{Empty}
 use Rattle.tpl_verify.specs.declared.verdict.Empty.TheVariants.{NeverBegins, NamesAllEnds, NamesGivenEnds, NeverThrows, NeverEndsSo, NeverEnds, NeverKept}
@@ -32,9 +31,9 @@ HoldsAlways g claim = (v : List Bool) (h : List Event) → Run g v h → Holds g
 
 -- a tree with n splits above its deepest leaf is accepted for the claim by the rules
 pub record IsCertified (rules : RuleSet) (g : TaskGraph) (claim : Claim) (n : ℕ) : Type 0 where
-  pub tree : WideTree
+  pub tree : Tree
   pub accepted : AcceptsBy rules g (claim ∷ []) (tree ∷ [])
-  pub splits : wide_height tree ≡ n
+  pub splits : height tree ≡ n
 
 -- a claim of another property under the same given
 abbrev pub under : List Given → Property TaskId → Claim

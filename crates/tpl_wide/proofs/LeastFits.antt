@@ -10,8 +10,8 @@ use Rattle.tpl_model.specs.declared.ids.TaskId.{TaskId}
 use Rattle.tpl_model.specs.declared.claim.Property.{Property}
 use Rattle.tpl_model.specs.declared.claim.Property.TheVariants.{Observed}
 use Rattle.tpl_model.specs.Graph.{TaskGraph}
-use Rattle.tpl_model.specs.Certificate.{Row, row}
-use Rattle.tpl_model.specs.WiderRules.{WideRow, WideAssumed, kind_left, plain}
+use Rattle.tpl_model.specs.Certificate.{PlainRow, row, Row, plain}
+use Rattle.tpl_model.specs.WiderRules.{WideAssumed, kind_left}
 use Rattle.tpl_laws.specs.RowTests.{is_below, some_end, takes_over}
 use Rattle.tpl_laws.specs.Verdict.{has_tasks, rows_fit}
 use Rattle.tpl_laws.specs.LeastRows.{blank_row, begun_row, ended_by, is_reader, is_read_after, least_from, followed, chain_after, chain_from, chain_for, begin_step, end_step, ended_row, ends_where, has_to_end_so, upwards, downwards, family_step, least_rows, tasks_where}
@@ -29,12 +29,12 @@ least_below test low (suc n) x e = pick (test low) e (λ h. least_below test (su
     pick false h later = let below = later h in omega arith
 
 -- one row for each task, and the ids in them are the graph's
-pub record RowsFit (g : TaskGraph) (rows : List WideRow) : Type 0 where
+pub record RowsFit (g : TaskGraph) (rows : List Row) : Type 0 where
   pub count : length rows ≡ length g.tasks
   pub ids : rows_fit g (plain rows) ≡ true
 
 -- the ids in a row
-abbrev row_ids : TaskGraph → Row → Bool
+abbrev row_ids : TaskGraph → PlainRow → Bool
 row_ids g r = has_tasks g r.before && (has_tasks g r.past && has_tasks g r.chain)
 
 module _ (g : TaskGraph) where
@@ -75,13 +75,13 @@ module _ (g : TaskGraph) where
 
   -- ---- rows
 
-  set_fits : (rows : List WideRow) (t : ℕ) (r : WideRow) → rows_fit g (plain rows) ≡ true → row_ids g r.row ≡ true → rows_fit g (plain (slice_set rows t r)) ≡ true
+  set_fits : (rows : List Row) (t : ℕ) (r : Row) → rows_fit g (plain rows) ≡ true → row_ids g r.row ≡ true → rows_fit g (plain (slice_set rows t r)) ≡ true
   set_fits [] t r e h = refl
   set_fits (x ∷ rows) zero r e h = and_from (row_ids g r.row) (rows_fit g (plain rows)) h (and_second (row_ids g x.row) (rows_fit g (plain rows)) e)
   set_fits (x ∷ rows) (suc t) r e h =
       and_from (row_ids g x.row) (rows_fit g (plain (slice_set rows t r))) (and_first (row_ids g x.row) (rows_fit g (plain rows)) e) (set_fits rows t r (and_second (row_ids g x.row) (rows_fit g (plain rows)) e) h)
 
-  before_fits : (rows : List WideRow) (t : ℕ) → rows_fit g (plain rows) ≡ true → has_tasks g (row (plain rows) t).before ≡ true
+  before_fits : (rows : List Row) (t : ℕ) → rows_fit g (plain rows) ≡ true → has_tasks g (row (plain rows) t).before ≡ true
   before_fits [] t e = refl
   before_fits (x ∷ rows) zero e = and_first (has_tasks g x.row.before) (has_tasks g x.row.past && has_tasks g x.row.chain) (and_first (row_ids g x.row) (rows_fit g (plain rows)) e)
   before_fits (x ∷ rows) (suc t) e = before_fits rows t (and_second (row_ids g x.row) (rows_fit g (plain rows)) e)
@@ -90,7 +90,7 @@ module _ (g : TaskGraph) where
   blank_fits zero = refl
   blank_fits (suc n) = blank_fits n
 
-  begun_fits : (l : WideAssumed) (rows : List WideRow) (t : ℕ) (b : Bool) → row_ids g (begun_row g l rows t b).row ≡ true
+  begun_fits : (l : WideAssumed) (rows : List Row) (t : ℕ) (b : Bool) → row_ids g (begun_row g l rows t b).row ≡ true
   begun_fits l rows t true = and_from (has_tasks g (begun_row g l rows t true).row.before) true (where_fits _) refl
   begun_fits l rows t false = refl
 
@@ -98,25 +98,25 @@ module _ (g : TaskGraph) where
   past_fits true test = where_fits test
   past_fits false test = refl
 
-  ended_fits : (l : WideAssumed) (p : Property TaskId) (rows : List WideRow) (t : ℕ) (ends : Finals) → rows_fit g (plain rows) ≡ true → row_ids g (ended_by g l p rows t ends).row ≡ true
+  ended_fits : (l : WideAssumed) (p : Property TaskId) (rows : List Row) (t : ℕ) (ends : Finals) → rows_fit g (plain rows) ≡ true → row_ids g (ended_by g l p rows t ends).row ≡ true
   ended_fits l p rows t ends e =
       and_from (has_tasks g (row (plain rows) t).before) (has_tasks g (ended_by g l p rows t ends).row.past && has_tasks g (chain_for g l p t)) (before_fits rows t e)
       (and_from (has_tasks g (ended_by g l p rows t ends).row.past) (has_tasks g (chain_for g l p t)) (past_fits (some_end (has ends)) _) (chain_fits l p t))
 
   -- ---- step by step
 
-  put_fits : (rows : List WideRow) (t : ℕ) (r : WideRow) → RowsFit g rows → row_ids g r.row ≡ true → RowsFit g (slice_set rows t r)
+  put_fits : (rows : List Row) (t : ℕ) (r : Row) → RowsFit g rows → row_ids g r.row ≡ true → RowsFit g (slice_set rows t r)
   put_fits rows t r f h = record { count = length-set rows t r ∙ f.count; ids = set_fits rows t r f.ids h }
 
-  begin_fits : (l : WideAssumed) (t : ℕ) (rows : List WideRow) → RowsFit g rows → RowsFit g (begin_step g l t rows)
+  begin_fits : (l : WideAssumed) (t : ℕ) (rows : List Row) → RowsFit g rows → RowsFit g (begin_step g l t rows)
   begin_fits l t rows f = put_fits rows t _ f (begun_fits l rows t _)
 
-  end_fits : (l : WideAssumed) (p : Property TaskId) (t : ℕ) (rows : List WideRow) → RowsFit g rows → RowsFit g (end_step g l p t rows)
+  end_fits : (l : WideAssumed) (p : Property TaskId) (t : ℕ) (rows : List Row) → RowsFit g rows → RowsFit g (end_step g l p t rows)
   end_fits l p t rows f =
       let ends = ends_where (has_to_end_so g l rows t (kind_left g l t)) in put_fits rows t (ended_row g l p rows t) f (ended_fits l p rows t ends f.ids)
 
-  module _ (test : ℕ → Bool) (step : ℕ → List WideRow → List WideRow) (fits : (t : ℕ) (rows : List WideRow) → RowsFit g rows → RowsFit g (step t rows)) where
-    upwards_fit : (n : ℕ) (rows : List WideRow) → RowsFit g rows → RowsFit g (upwards test step n rows)
+  module _ (test : ℕ → Bool) (step : ℕ → List Row → List Row) (fits : (t : ℕ) (rows : List Row) → RowsFit g rows → RowsFit g (step t rows)) where
+    upwards_fit : (n : ℕ) (rows : List Row) → RowsFit g rows → RowsFit g (upwards test step n rows)
     upwards_fit zero rows f = f
     upwards_fit (suc n) rows f = pick (test n) (upwards_fit n rows f)
       where
@@ -124,7 +124,7 @@ module _ (g : TaskGraph) where
         pick true h = fits n (upwards test step n rows) h
         pick false h = h
 
-    downwards_fit : (n : ℕ) (rows : List WideRow) → RowsFit g rows → RowsFit g (downwards test step n rows)
+    downwards_fit : (n : ℕ) (rows : List Row) → RowsFit g rows → RowsFit g (downwards test step n rows)
     downwards_fit zero rows f = f
     downwards_fit (suc n) rows f = downwards_fit n (if test n then step n rows else rows) (pick (test n))
       where
@@ -132,7 +132,7 @@ module _ (g : TaskGraph) where
         pick true = fits n rows f
         pick false = f
 
-  family_fits : (l : WideAssumed) (p : Property TaskId) (t : ℕ) (rows : List WideRow) → RowsFit g rows → RowsFit g (family_step g l p t rows)
+  family_fits : (l : WideAssumed) (p : Property TaskId) (t : ℕ) (rows : List Row) → RowsFit g rows → RowsFit g (family_step g l p t rows)
   family_fits l p t rows f =
       end_fits l p t _
       (downwards_fit (is_below g t) (end_step g l p) (end_fits l p) (length g.tasks) _

@@ -10,16 +10,16 @@ use Rattle.tpl_model.specs.Members.{mem}
 use Rattle.tpl_model.specs.Knowledge.{Fact, ChildEnd}
 use Rattle.tpl_model.specs.Graph.{TaskGraph}
 use Rattle.tpl_model.specs.Claims.{Claim}
-use Rattle.tpl_model.specs.Certificate.{row, same}
-use Rattle.tpl_model.specs.WiderRules.{WideRow, WideAssumed, WideTree, OnWinner, WideLeaf, ends_with, narrowed, plain, wide_row, widely_assumed, winner_split}
+use Rattle.tpl_model.specs.Certificate.{row, same, Row, Tree, OnWinner, RowsLeaf, plain}
+use Rattle.tpl_model.specs.WiderRules.{WideAssumed, ends_with, narrowed, wide_row, widely_assumed, winner_split}
 use Rattle.tpl_model.specs.declared.claim.Property.{Property}
 use Rattle.tpl_model.specs.declared.fault.CertFault.{CertFault}
 use Rattle.tpl_model.specs.declared.ids.TaskId.{TaskId}
 use Rattle.tpl_paths.specs.declared.reading.ChildEnd.{ChildEnd as StoredChildEnd}
 use Rattle.tpl_paths.specs.Reading.{end_of}
-use Rattle.tpl_laws.specs.Verdict.{or_else, no_fault, rows_fit}
+use Rattle.tpl_laws.specs.Verdict.{or_else, no_fault, rows_fit, leaves}
 use Rattle.tpl_laws.specs.WiderTests.{wide_leaf_fault}
-use Rattle.tpl_laws.specs.WideVerdict.{tokens_fit, wide_claims_fault, wide_fits, wide_misfit, wide_tree_fault, wide_leaves}
+use Rattle.tpl_laws.specs.WideVerdict.{tokens_fit, wide_claims_fault, wide_fits, wide_misfit, wide_tree_fault}
 use Rattle.tpl_checker.specs.declared.assumptions.Assumptions.{Assumptions}
 use Rattle.tpl_checker.specs.Assumptions.{assumed_of}
 use Rattle.tpl_checker.proofs.TreeLemmas.{ClaimsSoFar, FindsFaults, claim_fails, claim_next, or_else_first, or_else_second}
@@ -45,11 +45,11 @@ failing_second a b n m (Err (Fails x)) e same f = or_else_second a b e ∙ f
 failing_second a b n m (Err Memory) e same f = tt
 
 -- a leaf has a row for each task, and the ids in them are the graph's
-pub record LeafFits (g : TaskGraph) (rows : List WideRow) : Type 0 where
+pub record LeafFits (g : TaskGraph) (rows : List Row) : Type 0 where
   pub count : length rows ≡ length g.tasks
   pub ids : rows_fit g (plain rows) ≡ true
 
-pub leaf_fits : (g : TaskGraph) (rows : List WideRow) → wide_fits g (WideLeaf rows) ≡ true → LeafFits g rows
+pub leaf_fits : (g : TaskGraph) (rows : List Row) → wide_fits g (RowsLeaf rows) ≡ true → LeafFits g rows
 leaf_fits g rows e =
     let s = and_parts (nat_eq (length rows) (length g.tasks)) (rows_fit g (plain rows) && tokens_fit g rows) e in
     let r = and_parts (rows_fit g (plain rows)) (tokens_fit g rows) s.1 in
@@ -65,38 +65,38 @@ one_more_split a splits items n x wins e =
     ap (wide_assumed a) e ∙ (λ i. record { assumed = assumed_of a; wins = λ m y. all_leave_more splits (record { task = n; argument = x; wins = wins }) m y i })
 
 -- a split on a winner, where the branch on which it wins fails, and where that has no fault
-module _ (g : TaskGraph) (p : Property TaskId) (claim first : ℕ) (l : WideAssumed) {won : WideAssumed} {tree a b one : WideTree} {n x : ℕ} (is : tree ≡ OnWinner n x a b) (wins : won ≡ winner_split l n x true) (is_one : one ≡ a) where
-  pub winner_fails : (e : WideFault) → WidelyFailing (wide_tree_fault g p claim won first one) (first + wide_leaves one) (Err e) → WidelyFailing (wide_tree_fault g p claim l first tree) (first + wide_leaves tree) (Err e)
+module _ (g : TaskGraph) (p : Property TaskId) (claim first : ℕ) (l : WideAssumed) {won : WideAssumed} {tree a b one : Tree} {n x : ℕ} (is : tree ≡ OnWinner n x a b) (wins : won ≡ winner_split l n x true) (is_one : one ≡ a) where
+  pub winner_fails : (e : WideFault) → WidelyFailing (wide_tree_fault g p claim won first one) (first + leaves one) (Err e) → WidelyFailing (wide_tree_fault g p claim l first tree) (first + leaves tree) (Err e)
   winner_fails e h =
       let here : wide_tree_fault g p claim won first one ≡ wide_tree_fault g p claim (winner_split l n x true) first a = λ i. wide_tree_fault g p claim (wins i) first (is_one i) in
-      subst (λ (z : WideTree). WidelyFailing (wide_tree_fault g p claim l first z) (first + wide_leaves z) (Err e)) (sym is)
-      (failing_first (wide_tree_fault g p claim (winner_split l n x true) first a) (wide_tree_fault g p claim (winner_split l n x false) (first + wide_leaves a) b) (first + wide_leaves one) (first + wide_leaves (OnWinner n x a b)) e
-      (subst (λ (o : Option CertFault). WidelyFailing o (first + wide_leaves one) (Err e)) here h))
+      subst (λ (z : Tree). WidelyFailing (wide_tree_fault g p claim l first z) (first + leaves z) (Err e)) (sym is)
+      (failing_first (wide_tree_fault g p claim (winner_split l n x true) first a) (wide_tree_fault g p claim (winner_split l n x false) (first + leaves a) b) (first + leaves one) (first + leaves (OnWinner n x a b)) e
+      (subst (λ (o : Option CertFault). WidelyFailing o (first + leaves one) (Err e)) here h))
 
-  pub loser_decides : (lost : WideAssumed) (other : WideTree) (next : ℕ) (r : Result ℕ WideFault) → lost ≡ winner_split l n x false → other ≡ b → wide_tree_fault g p claim won first one ≡ None → next ≡ first + wide_leaves one
-      → WidelyFailing (wide_tree_fault g p claim lost next other) (next + wide_leaves other) r → WidelyFailing (wide_tree_fault g p claim l first tree) (first + wide_leaves tree) r
+  pub loser_decides : (lost : WideAssumed) (other : Tree) (next : ℕ) (r : Result ℕ WideFault) → lost ≡ winner_split l n x false → other ≡ b → wide_tree_fault g p claim won first one ≡ None → next ≡ first + leaves one
+      → WidelyFailing (wide_tree_fault g p claim lost next other) (next + leaves other) r → WidelyFailing (wide_tree_fault g p claim l first tree) (first + leaves tree) r
   loser_decides lost other next r loses is_other none up h =
       let here : wide_tree_fault g p claim won first one ≡ wide_tree_fault g p claim (winner_split l n x true) first a = λ i. wide_tree_fault g p claim (wins i) first (is_one i) in
-      let on : next ≡ first + wide_leaves a = up ∙ ap (λ z. first + wide_leaves z) is_one in
-      let there : wide_tree_fault g p claim lost next other ≡ wide_tree_fault g p claim (winner_split l n x false) (first + wide_leaves a) b = λ i. wide_tree_fault g p claim (loses i) (on i) (is_other i) in
-      let all : next + wide_leaves other ≡ first + wide_leaves (OnWinner n x a b) = (λ i. on i + wide_leaves (is_other i)) ∙ add_assoc first (wide_leaves a) (wide_leaves b) in
-      subst (λ (z : WideTree). WidelyFailing (wide_tree_fault g p claim l first z) (first + wide_leaves z) r) (sym is)
-      (failing_second (wide_tree_fault g p claim (winner_split l n x true) first a) (wide_tree_fault g p claim (winner_split l n x false) (first + wide_leaves a) b) (next + wide_leaves other) (first + wide_leaves (OnWinner n x a b)) r (sym here ∙ none) all
-      (subst (λ (o : Option CertFault). WidelyFailing o (next + wide_leaves other) r) there h))
+      let on : next ≡ first + leaves a = up ∙ ap (λ z. first + leaves z) is_one in
+      let there : wide_tree_fault g p claim lost next other ≡ wide_tree_fault g p claim (winner_split l n x false) (first + leaves a) b = λ i. wide_tree_fault g p claim (loses i) (on i) (is_other i) in
+      let all : next + leaves other ≡ first + leaves (OnWinner n x a b) = (λ i. on i + leaves (is_other i)) ∙ add_assoc first (leaves a) (leaves b) in
+      subst (λ (z : Tree). WidelyFailing (wide_tree_fault g p claim l first z) (first + leaves z) r) (sym is)
+      (failing_second (wide_tree_fault g p claim (winner_split l n x true) first a) (wide_tree_fault g p claim (winner_split l n x false) (first + leaves a) b) (next + leaves other) (first + leaves (OnWinner n x a b)) r (sym here ∙ none) all
+      (subst (λ (o : Option CertFault). WidelyFailing o (next + leaves other) r) there h))
 
 -- a leaf, where the ends that its splits left are narrowed
-module _ (g : TaskGraph) (p : Property TaskId) (a b : Assumptions) (splits : List WinnerSplit) (rows : List WideRow) (narrow : assumed_of b ≡ narrowed_before g (assumed_of a) (length g.tasks)) where
+module _ (g : TaskGraph) (p : Property TaskId) (a b : Assumptions) (splits : List WinnerSplit) (rows : List Row) (narrow : assumed_of b ≡ narrowed_before g (assumed_of a) (length g.tasks)) where
   pub narrowed_leaf : wide_leaf_fault g p (wide_assumed b splits) rows ≡ wide_leaf_fault g p (narrowed g (wide_assumed a splits)) rows
   narrowed_leaf = λ i. wide_leaf_fault g p (record { assumed = narrow i; wins = all_leave splits }) rows
 
 -- how tasks end, by their rows
-same_end : (rows : List WideRow) (t : ℕ) → row_end (wide_row rows t) ≡ record { ends = (row (plain rows) t).ends; facts = ends_with rows t }
+same_end : (rows : List Row) (t : ℕ) → row_end (wide_row rows t) ≡ record { ends = (row (plain rows) t).ends; facts = ends_with rows t }
 same_end rows t = λ i. record { ends = (plain_row rows t i).ends; facts = λ f. same_facts f i }
   where
     same_facts : (f : Fact) → row_facts (wide_row rows t) f ≡ ends_with rows t f
     same_facts = by_fact (λ f. row_facts (wide_row rows t) f ≡ ends_with rows t f) (λ x. ap (λ r. mem x r.past) (plain_row rows t)) (λ k. refl)
 
-pub ends_of_rows : (rows : List WideRow) (ends : List StoredChildEnd) → map end_of ends ≡ map row_end rows → (t : ℕ) → t < length rows
+pub ends_of_rows : (rows : List Row) (ends : List StoredChildEnd) → map end_of ends ≡ map row_end rows → (t : ℕ) → t < length rows
     → option_map end_of (slice_get ends t) ≡ Some (record { ends = (row (plain rows) t).ends; facts = ends_with rows t })
 ends_of_rows rows ends h t lt =
     sym (slice_get-map end_of ends t)
@@ -105,21 +105,21 @@ ends_of_rows rows ends h t lt =
     ∙ (ap (λ o. option_map row_end o) (slice_get-get_or rows t (record { row = row [] t; asked = []; asks = [] }) lt)
     ∙ ap Some (same_end rows t))))
 
-pub one_more_end : (rows : List WideRow) (ends : List StoredChildEnd) (i : ℕ) (d : WideRow) (e : StoredChildEnd) → i < length rows → map end_of ends ≡ map row_end (take i rows) → end_of e ≡ row_end (slice_index_or rows i d) → map end_of (ends ++ e ∷ []) ≡ map row_end (take (i + 1) rows)
+pub one_more_end : (rows : List Row) (ends : List StoredChildEnd) (i : ℕ) (d : Row) (e : StoredChildEnd) → i < length rows → map end_of ends ≡ map row_end (take i rows) → end_of e ≡ row_end (slice_index_or rows i d) → map end_of (ends ++ e ∷ []) ≡ map row_end (take (i + 1) rows)
 one_more_end rows ends i d e lt h same =
     map-append end_of ends (e ∷ [])
     ∙ ((λ j. h j ++ same j ∷ [])
-    ∙ (sym (map-append row_end (take i rows) (slice_index_or rows i d ∷ [])) ∙ ap (λ (rs : List WideRow). map row_end rs) (sym (take_more rows i d lt))))
+    ∙ (sym (map-append row_end (take i rows) (slice_index_or rows i d ∷ [])) ∙ ap (λ (rs : List Row). map row_end rs) (sym (take_more rows i d lt))))
 
 -- the fault of a tree of the n-th claim
-abbrev pub wide_fault_of : TaskGraph → ℕ → Claim → WideTree → Option CertFault
+abbrev pub wide_fault_of : TaskGraph → ℕ → Claim → Tree → Option CertFault
 wide_fault_of g n c t = wide_tree_fault g c.body n (widely_assumed g c) 1 t
 
 pub finds_wide_faults : (g : TaskGraph) → FindsFaults (wide_fault_of g) (wide_claims_fault g)
 finds_wide_faults g = record { none = λ n ts. refl; next = λ n c cs t ts. refl }
 
 -- at the claim c with the tree t
-module _ (g : TaskGraph) {claims : List Claim} {trees : List WideTree} {i : ℕ} (so_far : ClaimsSoFar (wide_misfit g) (wide_claims_fault g) claims trees i) (in_claims : i < length claims) (c : Claim) (t : WideTree) (is_claim : c ≡ slice_index_or claims i c) (is_tree : t ≡ slice_index_or trees i t) where
+module _ (g : TaskGraph) {claims : List Claim} {trees : List Tree} {i : ℕ} (so_far : ClaimsSoFar (wide_misfit g) (wide_claims_fault g) claims trees i) (in_claims : i < length claims) (c : Claim) (t : Tree) (is_claim : c ≡ slice_index_or claims i c) (is_tree : t ≡ slice_index_or trees i t) where
   pub claim_proved : wide_fault_of g (i + 1) c t ≡ None → ClaimsSoFar (wide_misfit g) (wide_claims_fault g) claims trees (i + 1)
   claim_proved e = claim_next (finds_wide_misfits g) so_far in_claims (finds_wide_faults g) c t (sym (λ j. wide_fault_of g (i + 1) (is_claim j) (is_tree j)) ∙ e)
 

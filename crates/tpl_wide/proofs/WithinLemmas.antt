@@ -6,7 +6,7 @@ use Rattle.tpl_model.proofs.Truths.{and_first, and_second, same_tests}
 use Rattle.tpl_model.specs.Members.{mem}
 use Rattle.tpl_model.specs.Graph.{TaskGraph}
 use Rattle.tpl_model.specs.TaskSet.{AscendsWithin, passing_from}
-use Rattle.tpl_trees.specs.WideCoding.{tokens_in}
+use Rattle.tpl_trees.specs.Coding.{tokens_in}
 use Rattle.tpl_paths.specs.declared.facts.Facts.{Facts}
 use Rattle.tpl_paths.specs.declared.token_set.TokenSet.{TokenSet}
 use Rattle.tpl_paths.specs.TokenSet.{has_token}

@@ -1,7 +1,8 @@
 -- A leaf whose rows are left out, in memory.
 use Rattle.std.specs.Prelude.{ℕ, List, length}
 use Rattle.tpl_model.specs.Graph.{TaskGraph}
-use Rattle.tpl_model.specs.WiderRules.{WideAssumed, WideRow}
+use Rattle.tpl_model.specs.Certificate.{Row}
+use Rattle.tpl_model.specs.WiderRules.{WideAssumed}
 use Rattle.tpl_laws.specs.RowTests.{is_below}
 use Rattle.tpl_laws.specs.LeastRows.{begin_step, downwards, end_step, upwards}
 use Rattle.tpl_checker.specs.Below.{AreBelow}
@@ -17,11 +18,11 @@ abbrev pub assumed_by : Case → WideAssumed
 assumed_by case = wide_assumed case.assumed.now case.winners.now
 
 -- the rows once all tasks below t have begun
-abbrev pub begun_below : Case → ℕ → List WideRow → List WideRow
+abbrev pub begun_below : Case → ℕ → List Row → List Row
 begun_below case t = upwards (is_below (graph_by case) t) (begin_step (graph_by case) (assumed_by case)) (length (graph_by case).tasks)
 
 -- the rows once these have ended
-abbrev pub ended_below : Case → ℕ → List WideRow → List WideRow
+abbrev pub ended_below : Case → ℕ → List Row → List Row
 ended_below case t = downwards (is_below (graph_by case) t) (end_step (graph_by case) (assumed_by case) case.property) (length (graph_by case).tasks)
 
 -- what is read off the graph is its

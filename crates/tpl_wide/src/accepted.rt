@@ -4,7 +4,7 @@ ghost use Rattle.std.specs.Prelude.{◌≡◌, ◌≤◌, ◌↔◌, [], IfOk, I
 ghost use Rattle.tpl_laws.specs.Prelude.{AcceptsWideTree, least_rows};
 ghost use Rattle.tpl_leaf.specs.Prelude.{wide_assumed};
 ghost use Rattle.tpl_model.specs.Prelude.{LeastLeaf, narrowed};
-ghost use Rattle.tpl_trees.specs.Prelude.{wide_height};
+ghost use Rattle.tpl_trees.specs.Prelude.{height};
 ghost use Rattle.tpl_wide.specs.Prelude.{IsCheck, graph_in};
 
 use crate::case::Case;
@@ -18,7 +18,7 @@ use std::alloc::{AllocError, Global};
 use tpl_checker::Assumptions;
 use tpl_leaf::{WinnerSplit, narrowed};
 use tpl_model::MOST_SPLITS;
-use tpl_trees::{WideRow, WideTree};
+use tpl_trees::{Row, Tree};
 
 /// Whether a leaf that leaves its rows out is accepted, where its splits left this.
 pub fn least_leaf_proves(
@@ -45,7 +45,7 @@ pub fn rows_left_out(
     check: &Check<'_>,
     assumed: &Assumptions,
     winners: &[WinnerSplit],
-) -> Result<Vec<WideRow>, AllocError>
+) -> Result<Vec<Row>, AllocError>
     requires { IsCheck check.now }
     ensures { IfOk result (λ v. v.items ≡ least_rows (graph_in check.now)
         (narrowed (graph_in check.now) (wide_assumed assumed.now winners.now))
@@ -62,10 +62,10 @@ pub fn accepts_tree(
     alloc: Global,
     check: &Check<'_>,
     assumed: &Assumptions,
-    tree: &WideTree,
+    tree: &Tree,
 ) -> Result<bool, AllocError>
     requires check { IsCheck check.now }
-    requires height { wide_height tree.now ≤ MOST_SPLITS }
+    requires height { height tree.now ≤ MOST_SPLITS }
     ensures { IfOk result (λ b. IsTrue b ↔ AcceptsWideTree (graph_in check.now) check.now.property
         (wide_assumed assumed.now []) tree.now) }
 {

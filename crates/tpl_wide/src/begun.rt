@@ -12,10 +12,10 @@ use std::alloc::Global;
 use tpl_leaf::{Leaf, NO_END, begin_facts, runs};
 use tpl_model::{TaskId, TaskSet};
 use tpl_paths::{Facts, TokenSet};
-use tpl_trees::{Row, WideRow};
+use tpl_trees::{PlainRow, Row};
 
 /// The row runs, if it has to, and then has all that it may say of its task's begin.
-pub(crate) fn begun_row(alloc: Global, leaf: &Leaf<'_>, all: &Facts, task: TaskId) -> WideRow
+pub(crate) fn begun_row(alloc: Global, leaf: &Leaf<'_>, all: &Facts, task: TaskId) -> Row
     requires leaf { IsLeaf leaf.now }
     requires task { is_task (graph_of leaf.now) task.0 }
     requires all { IsAll (graph_of leaf.now) all.now }
@@ -26,6 +26,6 @@ pub(crate) fn begun_row(alloc: Global, leaf: &Leaf<'_>, all: &Facts, task: TaskI
         return blank_row(alloc);
     }
     let facts = within(all, Some(begin_facts(leaf, task)));
-    let row = Row::new(NO_END, true, facts.tasks, TaskSet::empty(), Vec::new(alloc));
-    WideRow::new(row, facts.tokens, TokenSet::empty())
+    let row = PlainRow::new(NO_END, true, facts.tasks, TaskSet::empty(), Vec::new(alloc));
+    Row::new(row, facts.tokens, TokenSet::empty())
 }

@@ -16,7 +16,7 @@ use tpl_checker::some_end;
 use tpl_leaf::{Leaf, Ways, demanded, end_facts, ways_to_end};
 use tpl_model::{Finals, Property, TaskId, TaskSet};
 use tpl_paths::{Facts, TokenSet};
-use tpl_trees::{Row, WideRow};
+use tpl_trees::{PlainRow, Row};
 
 /// The row ends in each way in which it has to, and if in any, has all that it may say of its task's end.
 pub(crate) fn ended_row(
@@ -25,7 +25,7 @@ pub(crate) fn ended_row(
     all: &Facts,
     property: Property,
     task: TaskId,
-) -> Result<WideRow, AllocError>
+) -> Result<Row, AllocError>
     requires leaf { IsLeaf leaf.now }
     requires task { is_task (graph_of leaf.now) task.0 }
     requires all { IsAll (graph_of leaf.now) all.now }
@@ -38,8 +38,8 @@ pub(crate) fn ended_row(
     let begun = leaf.wide_row(task);
     let before = begun.row().before().copy();
     let chain = chain_for(alloc, leaf, property, task)?;
-    let row = Row::new(ends, begun.row().runs(), before, facts.tasks, chain);
-    Ok(WideRow::new(row, begun.asked(), facts.tokens))
+    let row = PlainRow::new(ends, begun.row().runs(), before, facts.tasks, chain);
+    Ok(Row::new(row, begun.asked(), facts.tokens))
 }
 
 /// All that the row of a task that ends in these ways may say of its end: nothing, if it ends in none.

@@ -12,12 +12,12 @@ use tpl_graph::Graph;
 use tpl_leaf::NO_END;
 use tpl_model::{TaskId, TaskSet};
 use tpl_paths::{ChildEnd, Facts, TokenSet};
-use tpl_trees::{Row, WideRow};
+use tpl_trees::{PlainRow, Row};
 
 /// A row for each task while the rows are worked out, and beside each how its task ends.
 #[derive(Drop)]
 pub(crate) struct Rows {
-    pub(crate) rows: Vec<WideRow>,
+    pub(crate) rows: Vec<Row>,
     pub(crate) ends: Vec<ChildEnd>,
 }
 
@@ -36,7 +36,7 @@ impl Rows {
     }
 
     /// Puts the row of a task in the place of the one before.
-    pub(crate) fn put(&mut self, task: TaskId, row: WideRow)
+    pub(crate) fn put(&mut self, task: TaskId, row: Row)
         requires rows { task.0 < length self.old.rows.items }
         requires ends { task.0 < length self.old.ends.items }
         ensures { (g : TaskGraph) → IsRows g self.old
@@ -49,21 +49,21 @@ impl Rows {
 }
 
 /// A row that says nothing.
-pub(crate) fn blank_row(alloc: Global) -> WideRow
+pub(crate) fn blank_row(alloc: Global) -> Row
     ensures { result ≡ blank_row }
 {
-    let row = Row::new(
+    let row = PlainRow::new(
         NO_END,
         false,
         TaskSet::empty(),
         TaskSet::empty(),
         Vec::new(alloc),
     );
-    WideRow::new(row, TokenSet::empty(), TokenSet::empty())
+    Row::new(row, TokenSet::empty(), TokenSet::empty())
 }
 
 /// By each row how its task ends.
-pub(crate) fn child_ends(alloc: Global, rows: &[WideRow]) -> Result<Vec<ChildEnd>, AllocError>
+pub(crate) fn child_ends(alloc: Global, rows: &[Row]) -> Result<Vec<ChildEnd>, AllocError>
     ensures { IfOk result (λ v. map end_of v.items ≡ map row_end rows.now) }
 {
     let mut ends = Vec::new(alloc);
@@ -74,7 +74,7 @@ pub(crate) fn child_ends(alloc: Global, rows: &[WideRow]) -> Result<Vec<ChildEnd
 }
 
 /// How a task ends, by its row.
-fn end_of_row(row: &WideRow) -> ChildEnd
+fn end_of_row(row: &Row) -> ChildEnd
     ensures { end_of result ≡ row_end row.now }
 {
     ChildEnd {

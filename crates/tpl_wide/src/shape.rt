@@ -10,31 +10,31 @@ use tpl_graph::{Claim, Graph, Role};
 use tpl_leaf::both;
 use tpl_model::{CertFault, TaskId, TokenId};
 use tpl_paths::TokenSet;
-use tpl_trees::{WideNode, WideRow, WideTree};
+use tpl_trees::{Node, Row, Tree};
 
 /// Each leaf of the tree has one row for each task, and each id in it is the graph's.
-pub(crate) fn fits(graph: &Graph, tree: &WideTree) -> bool
+pub(crate) fn fits(graph: &Graph, tree: &Tree) -> bool
     ensures { result ≡ wide_fits graph.now.graph tree.now }
 {
     match tree.node() {
-        WideNode::SplitInput(input, on_true, on_false) => {
+        Node::SplitInput(input, on_true, on_false) => {
             (input.0 as usize) < graph.input_count()
                 && fits(graph, on_true)
                 && fits(graph, on_false)
         }
-        WideNode::SplitEnd(task, ran, canceled, faulted) => {
+        Node::SplitEnd(task, ran, canceled, faulted) => {
             (task.0 as usize) < graph.len()
                 && fits(graph, ran)
                 && fits(graph, canceled)
                 && fits(graph, faulted)
         }
-        WideNode::SplitWinner(task, argument, on_yes, on_no) => {
+        Node::SplitWinner(task, argument, on_yes, on_no) => {
             may_have_winner(graph, *task, *argument) && fits(graph, on_yes) && fits(graph, on_no)
         }
-        WideNode::Leaf(rows) => {
+        Node::Leaf(rows) => {
             rows.len() == graph.len() && rows_fit(graph, rows) && tokens_fit(graph, rows)
         }
-        WideNode::Least => true,
+        Node::Least => true,
     }
 }
 
@@ -52,7 +52,7 @@ fn may_have_winner(graph: &Graph, task: TaskId, argument: TaskId) -> bool
 }
 
 /// Each task in the rows is the graph's.
-fn rows_fit(graph: &Graph, rows: &[WideRow]) -> bool
+fn rows_fit(graph: &Graph, rows: &[Row]) -> bool
     ensures { result ≡ rows_fit graph.now.graph (plain rows.now) }
 {
     let all = all_tasks(graph);
@@ -65,7 +65,7 @@ fn rows_fit(graph: &Graph, rows: &[WideRow]) -> bool
 }
 
 /// Each token in the rows is the graph's.
-fn tokens_fit(graph: &Graph, rows: &[WideRow]) -> bool
+fn tokens_fit(graph: &Graph, rows: &[Row]) -> bool
     ensures { result ≡ tokens_fit graph.now.graph rows.now }
 {
     let all = all_tokens(graph);
@@ -78,7 +78,7 @@ fn tokens_fit(graph: &Graph, rows: &[WideRow]) -> bool
 }
 
 /// Each token in the row is the graph's, whose tokens are all of these.
-fn tokens_of_row_fit(graph: &Graph, row: &WideRow, all: TokenSet) -> bool
+fn tokens_of_row_fit(graph: &Graph, row: &Row, all: TokenSet) -> bool
     requires { (k : ℕ) → has_token all k ≡ nat_lt k (length graph.now.graph.tokens) }
     ensures { result ≡ (has_tokens graph.now.graph row.now.asked
         && has_tokens graph.now.graph row.now.asks) }
@@ -100,7 +100,7 @@ pub(crate) fn all_tokens(graph: &Graph) -> TokenSet
 }
 
 /// The first claim without a tree that fits, or tree without a claim.
-pub(crate) fn misfit(graph: &Graph, claims: &[Claim], trees: &[WideTree]) -> Option<CertFault>
+pub(crate) fn misfit(graph: &Graph, claims: &[Claim], trees: &[Tree]) -> Option<CertFault>
     ensures { result ≡ wide_misfit graph.now.graph 1 claims.now trees.now }
 {
     let both = claims.len().min(trees.len());

@@ -2,9 +2,9 @@
 
 ghost use Rattle.std.specs.Prelude.{◌≡◌, ◌+◌, ◌<◌, ◌^◌, ◌++◌, ◌∷◌, [], IfOk, IsTrue};
 ghost use Rattle.tpl_checker.specs.Prelude.{fault_in};
-ghost use Rattle.tpl_laws.specs.Prelude.{at_leaf, wide_fits, wide_leaves, wide_tree_fault};
+ghost use Rattle.tpl_laws.specs.Prelude.{at_leaf, wide_fits, leaves, wide_tree_fault};
 ghost use Rattle.tpl_leaf.specs.Prelude.{wide_assumed};
-ghost use Rattle.tpl_model.specs.Prelude.{LeastLeaf, WideLeaf};
+ghost use Rattle.tpl_model.specs.Prelude.{LeastLeaf, RowsLeaf};
 ghost use Rattle.tpl_wide.specs.Prelude.{IsCheck, WidelyFailing, graph_in, least_fault};
 
 use crate::case::Case;
@@ -16,7 +16,7 @@ use std::alloc::{AllocError, Global};
 use tpl_checker::{Assumptions, LeafFault, placed};
 use tpl_leaf::{Leaf, WinnerSplit, leaf_fault, narrowed};
 use tpl_model::{Final, TaskId};
-use tpl_trees::{WideNode, WideRow, WideTree};
+use tpl_trees::{Node, Row, Tree};
 
 /// The first leaf of the tree that fails, of which the first has the number `first`. Where none does, the number after the
 /// last one.
@@ -26,24 +26,24 @@ pub(crate) fn tree_fault(
     assumed: &Assumptions,
     winners: &[WinnerSplit],
     first: usize,
-    tree: &WideTree,
+    tree: &Tree,
 ) -> Result<usize, WideFault>
     requires check { IsCheck check.now }
     requires fits { IsTrue (wide_fits (graph_in check.now) tree.now) }
-    requires room { first + wide_leaves tree.now < 2 ^ 64 }
+    requires room { first + leaves tree.now < 2 ^ 64 }
     ensures { WidelyFailing (wide_tree_fault (graph_in check.now) check.now.property check.now.claim
-        (wide_assumed assumed.now winners.now) first tree.now) (first + wide_leaves tree.now)
+        (wide_assumed assumed.now winners.now) first tree.now) (first + leaves tree.now)
         result }
 {
     check.graph.valid_law();
     match tree.node() {
-        WideNode::SplitInput(input, on_true, on_false) => {
+        Node::SplitInput(input, on_true, on_false) => {
             let yes = assumed.with_input(*input, true);
             let no = assumed.with_input(*input, false);
             let next = tree_fault(alloc, check, &yes, winners, first, on_true)?;
             tree_fault(alloc, check, &no, winners, next, on_false)
         }
-        WideNode::SplitEnd(task, ran, canceled, faulted) => {
+        Node::SplitEnd(task, ran, canceled, faulted) => {
             let on_ran = assumed.with_end(*task, Final::RanToCompletion);
             let on_canceled = assumed.with_end(*task, Final::Canceled);
             let on_faulted = assumed.with_end(*task, Final::Faulted);
@@ -51,14 +51,14 @@ pub(crate) fn tree_fault(
             let next = tree_fault(alloc, check, &on_canceled, winners, next, canceled)?;
             tree_fault(alloc, check, &on_faulted, winners, next, faulted)
         }
-        WideNode::SplitWinner(task, argument, on_yes, on_no) => {
+        Node::SplitWinner(task, argument, on_yes, on_no) => {
             let yes = with_split(alloc, winners, *task, *argument, true)?;
             let no = with_split(alloc, winners, *task, *argument, false)?;
             let next = tree_fault(alloc, check, assumed, yes.as_slice(), first, on_yes)?;
             tree_fault(alloc, check, assumed, no.as_slice(), next, on_no)
         }
-        WideNode::Leaf(rows) => leaf_at(alloc, check, assumed, winners, first, rows),
-        WideNode::Least => least_leaf_at(alloc, check, assumed, winners, first),
+        Node::Leaf(rows) => leaf_at(alloc, check, assumed, winners, first, rows),
+        Node::Least => least_leaf_at(alloc, check, assumed, winners, first),
     }
 }
 
@@ -92,13 +92,13 @@ fn leaf_at(
     assumed: &Assumptions,
     winners: &[WinnerSplit],
     number: usize,
-    rows: &[WideRow],
+    rows: &[Row],
 ) -> Result<usize, WideFault>
     requires check { IsCheck check.now }
-    requires fits { IsTrue (wide_fits (graph_in check.now) (WideLeaf rows.now)) }
+    requires fits { IsTrue (wide_fits (graph_in check.now) (RowsLeaf rows.now)) }
     requires room { number + 1 < 2 ^ 64 }
     ensures { WidelyFailing (wide_tree_fault (graph_in check.now) check.now.property check.now.claim
-        (wide_assumed assumed.now winners.now) number (WideLeaf rows.now)) (number + 1) result }
+        (wide_assumed assumed.now winners.now) number (RowsLeaf rows.now)) (number + 1) result }
 {
     let ends = child_ends(alloc, rows)?;
     let narrowed = narrowed(check.graph, assumed);

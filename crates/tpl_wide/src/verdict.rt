@@ -3,11 +3,11 @@
 ghost use Rattle.std.specs.Prelude.{◌≡◌, ◌+◌, ◌≤◌, ◌<◌, List, Bool, IfOk, IfErr, IsTrue, None, All};
 ghost use Rattle.tpl_checker.specs.Prelude.{AreBelow};
 ghost use Rattle.tpl_graph.specs.Prelude.{Fits};
-ghost use Rattle.tpl_laws.specs.Prelude.{Each, WidelyAccepts, no_fault, wide_claims_fault, wide_fits, wide_leaves, wide_misfit, wide_tree_fault, wide_verdict};
+ghost use Rattle.tpl_laws.specs.Prelude.{Each, WidelyAccepts, no_fault, wide_claims_fault, wide_fits, leaves, wide_misfit, wide_tree_fault, wide_verdict};
 ghost use Rattle.tpl_leaf.specs.Prelude.{AreLinks};
 ghost use Rattle.tpl_model.specs.Prelude.{Holds, Run, widely_assumed};
 ghost use Rattle.tpl_model.specs.declared.event.Event.{Event};
-ghost use Rattle.tpl_trees.specs.Prelude.{wide_height};
+ghost use Rattle.tpl_trees.specs.Prelude.{height};
 ghost use Rattle.tpl_wide.specs.Prelude.{IsAnswer, WidelyFailing};
 ghost use Rattle.tpl_wide.specs.declared.error.WideFault.TheVariants as faults;
 
@@ -21,11 +21,11 @@ use tpl_graph::{Claim, Graph};
 use tpl_leaf::links;
 use tpl_model::{MOST_SPLITS, RuleSet};
 use tpl_paths::TokenSet;
-use tpl_trees::WideTree;
+use tpl_trees::Tree;
 
 /// Checks that the trees prove the claims of the graph, each of which can be asked of it, by the wide
 /// rules for rows that speak of tokens too. No tree has more than `MOST_SPLITS` splits on a path
-/// (`tpl_trees::is_within_wide_limits` tests that).
+/// (`tpl_trees::is_within_limits` tests that).
 ///
 /// The first fault is reported. `Shape` comes first, for the first claim that has it: it has no tree,
 /// or a tree has no claim, a leaf doesn't have one row for each task, a split on a winner isn't on an
@@ -40,10 +40,10 @@ pub fn check_wide(
     alloc: Global,
     graph: &Graph,
     claims: &[Claim],
-    trees: &[WideTree],
+    trees: &[Tree],
 ) -> Result<(), WideFault>
     requires claims { All (Fits graph.now.graph) claims.now }
-    requires trees { All (λ tree. wide_height tree ≤ MOST_SPLITS) trees.now }
+    requires trees { All (λ tree. height tree ≤ MOST_SPLITS) trees.now }
     ensures verdict { IsAnswer (wide_verdict graph.now.graph claims.now trees.now) result }
     ensures accepted { IfOk result (λ u. WidelyAccepts graph.now.graph claims.now trees.now) }
     ensures refused { IfErr result (λ fault. WidelyAccepts graph.now.graph claims.now trees.now
@@ -62,10 +62,10 @@ fn verdict(
     alloc: Global,
     graph: &Graph,
     claims: &[Claim],
-    trees: &[WideTree],
+    trees: &[Tree],
 ) -> Result<(), WideFault>
     requires claims { All (Fits graph.now.graph) claims.now }
-    requires trees { All (λ tree. wide_height tree ≤ MOST_SPLITS) trees.now }
+    requires trees { All (λ tree. height tree ≤ MOST_SPLITS) trees.now }
     ensures { IsAnswer (wide_verdict graph.now.graph claims.now trees.now) result }
 {
     match misfit(graph, claims, trees) {
@@ -79,10 +79,10 @@ fn claims_fault(
     alloc: Global,
     graph: &Graph,
     claims: &[Claim],
-    trees: &[WideTree],
+    trees: &[Tree],
 ) -> Result<(), WideFault>
     requires claims { All (Fits graph.now.graph) claims.now }
-    requires trees { All (λ tree. wide_height tree ≤ MOST_SPLITS) trees.now }
+    requires trees { All (λ tree. height tree ≤ MOST_SPLITS) trees.now }
     requires shapes { wide_misfit graph.now.graph 1 claims.now trees.now ≡ None }
     ensures { IsAnswer (no_fault (wide_claims_fault graph.now.graph 1 claims.now trees.now)) result }
 {
@@ -110,15 +110,15 @@ fn claim_fault(
     linked: &[TokenSet],
     number: usize,
     claim: &Claim,
-    tree: &WideTree,
+    tree: &Tree,
 ) -> Result<usize, WideFault>
     requires claim { Fits graph.now.graph claim.now }
     requires below { AreBelow graph.now.graph below.now }
     requires linked { AreLinks graph.now.graph linked.now }
     requires fits { IsTrue (wide_fits graph.now.graph tree.now) }
-    requires height { wide_height tree.now ≤ MOST_SPLITS }
+    requires height { height tree.now ≤ MOST_SPLITS }
     ensures { WidelyFailing (wide_tree_fault graph.now.graph claim.now.body number
-        (widely_assumed graph.now.graph claim.now) 1 tree.now) (1 + wide_leaves tree.now) result }
+        (widely_assumed graph.now.graph claim.now) 1 tree.now) (1 + leaves tree.now) result }
 {
     let check = Check {
         graph,

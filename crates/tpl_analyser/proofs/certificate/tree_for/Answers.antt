@@ -3,7 +3,7 @@ use Rattle.std.proofs.Common.{false, ◌≤◌, IfOk, IfSome, ap, ◌∙◌, sub
 use Rattle.tpl_model.specs.declared.ids.TaskId.{TaskId}
 use Rattle.tpl_model.specs.declared.claim.Property.{Property}
 use Rattle.tpl_model.specs.Certificate.{Assumed, assumed_for}
-use Rattle.tpl_trees.specs.WideHeights.{wide_height}
+use Rattle.tpl_trees.specs.Heights.{height}
 use Rattle.tpl_checker.specs.Assumptions.{assumed_of}
 use Rattle.tpl_analyser.specs.Found.{IsFound}
 use Rattle.tpl_analyser.specs.Plans.{IsPlan}
@@ -13,7 +13,7 @@ use Rattle.tpl_analyser.proofs.certificate.tree_for.Goals as goal
 pub returns-in-Some : goal.returns-in-Some
 returns-in-Some over c =
     let g = c.args.graph.now.graph in
-    let n = wide_height c.in-Some.plan in
+    let n = height c.in-Some.plan in
     let l = assumed_of c.root-root.result.premises.assumptions in
     let planned : IfSome c.in_ok-deepened.field-0 (IsPlan g c.args.depth) = c.in_ok-deepened.ensures in
     let le : n ≤ c.args.depth = (rw c.in-Some.is at planned).height in

@@ -2,7 +2,6 @@ use Rattle.std.proofs.Common.{inr, sym}
 use Rattle.std.proofs.lemmas.Result.{err_from_is_err_and}
 use Rattle.tpl_json.specs.View.{view}
 use Rattle.tpl_model.specs.declared.rule_set.RuleSet.TheVariants.{Narrow}
-use Rattle.tpl_model.specs.WiderRules.{as_wide_tree}
 use Rattle.tpl_cert.specs.Seen.{tree_of}
 use Rattle.tpl_cert.proofs.PlainTrees.{plain_tree}
 use Rattle.tpl_cert.proofs.Spelling.{misspelled, misnamed, read_within_them, past_them}

@@ -2,7 +2,6 @@ use Rattle.std.proofs.Common.{refl}
 use Rattle.std.proofs.lemmas.List.{map_push}
 use Rattle.std.proofs.lemmas.List.Elements.{All-get_or}
 use Rattle.std.proofs.lemmas.Result.{err_from_is_err_and}
-use Rattle.tpl_model.specs.WiderRules.{as_wide}
 use Rattle.tpl_json.specs.Passes.{each_from}
 use Rattle.tpl_json.proofs.Passes.{each_more, each_done, each_fails}
 use Rattle.tpl_cert.specs.Plain.{IsPlainRow}

@@ -1,5 +1,4 @@
 use Rattle.std.proofs.Common.{◌≡◌, map, take, Ok}
-use Rattle.tpl_model.specs.WiderRules.{as_wide}
 use Rattle.tpl_cert.specs.Seen.{row_of}
 use Rattle.tpl_cert.specs.Naming.{wide_rows_in}
 use Rattle.tpl_cert.proofs.naming.rows_in.Given as goal

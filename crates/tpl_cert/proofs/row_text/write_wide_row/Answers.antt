@@ -3,7 +3,7 @@ use Rattle.std.proofs.lemmas.Result.{err_from_is_err_and}
 use Rattle.json.specs.Token.{Token, begin_object, key}
 use Rattle.json.specs.Tree.{json_tokens, members_tokens}
 use Rattle.serde_json.specs.Written.{outline, members_outline}
-use Rattle.tpl_trees.specs.WideCoding.{tokens_in}
+use Rattle.tpl_trees.specs.Coding.{tokens_in}
 use Rattle.tpl_cert.specs.Written.{names_data, row_members}
 use Rattle.tpl_cert.proofs.Ids.{unwritten_first, unwritten_second}
 use Rattle.tpl_cert.proofs.Names.{tokens_listed}

@@ -3,7 +3,6 @@ use Rattle.json.specs.Print.{print}
 use Rattle.json.specs.Tree.{json_tokens}
 use Rattle.serde_json.specs.Written.{outline}
 use Rattle.serde_json.proofs.Texts.{print-outline}
-use Rattle.tpl_model.specs.WiderRules.{as_wide_tree}
 use Rattle.tpl_model.specs.declared.rule_set.RuleSet.TheVariants.{Narrow}
 use Rattle.tpl_cert.specs.Written.{certificate_data}
 use Rattle.tpl_cert.proofs.Again.{all_read_again}

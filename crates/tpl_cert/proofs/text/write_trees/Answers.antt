@@ -1,5 +1,4 @@
 use Rattle.std.proofs.lemmas.Result.{err_from_is_err_and}
-use Rattle.tpl_model.specs.WiderRules.{as_wide_tree}
 use Rattle.tpl_model.specs.declared.rule_set.RuleSet.TheVariants.{Narrow}
 use Rattle.tpl_cert.specs.Written.{has_ids, tree_data, HasSets}
 use Rattle.tpl_cert.proofs.Ids.{unwritten_all}

@@ -1,4 +1,3 @@
-use Rattle.tpl_model.specs.WiderRules.{as_wide_tree}
 use Rattle.tpl_model.specs.declared.rule_set.RuleSet.TheVariants.{Narrow}
 use Rattle.tpl_cert.specs.Written.{has_ids, tree_data, HasSets}
 use Rattle.tpl_cert.proofs.Tokens.{AreWritten}

@@ -1,5 +1,4 @@
 use Rattle.std.proofs.Common.{◌≡◌, map}
-use Rattle.tpl_model.specs.WiderRules.{as_wide_tree}
 use Rattle.tpl_draw.specs.Endings.{endings}
 use Rattle.tpl_draw.proofs.ending.endings.Given as goal
 

@@ -1,5 +1,4 @@
 use Rattle.std.proofs.Common.{◌≡◌, drop, map}
-use Rattle.tpl_model.specs.WiderRules.{as_wide_tree}
 use Rattle.tpl_draw.specs.Endings.{either, ends}
 use Rattle.tpl_draw.proofs.ending.ends.Given as goal
 

@@ -4,7 +4,7 @@ use Rattle.tpl_model.specs.WiderRules.{end_split, input_split}
 use Rattle.tpl_laws.specs.WideTrees.{written}
 use Rattle.tpl_leaf.specs.Leaf.{wide_assumed}
 use Rattle.tpl_leaf.specs.Winners.{all_leave}
-use Rattle.tpl_trees.specs.WideTrees.{wide_node_of}
+use Rattle.tpl_trees.specs.Trees.{node_of}
 use Rattle.tpl_wide.specs.Check.{graph_in}
 use Rattle.tpl_wide.proofs.WideTreeLemmas.{one_more_split}
 use Rattle.tpl_draw.specs.Endings.{either, tree_ends}
@@ -18,7 +18,7 @@ ends_in_tree-requires-in-SplitWinner t c = (
     c.requires.check,
     branch_accepted (graph_in c.args.check.now) c.args.check.now.property c.args.assumed.now c.args.winners.now c.as_slice-in-SplitWinner.result.now c.in-SplitWinner.task c.in-SplitWinner.argument false c.deref-in-SplitWinner.result.now c.in-SplitWinner.on_no.value
         (c.as_slice-in-SplitWinner.ensures.value ∙ c.in_ok-no-in-SplitWinner.ensures) c.deref-in-SplitWinner.ensures
-        (winner_accepted (graph_in c.args.check.now) c.args.check.now.property (wide_assumed c.args.assumed.now c.args.winners.now) c.args.tree.now c.in-SplitWinner.on_yes.value c.in-SplitWinner.on_no.value c.in-SplitWinner.task.0 c.in-SplitWinner.argument.0 (c.node.ensures ∙ ap wide_node_of c.in-SplitWinner.is) c.requires.accepted).1,
+        (winner_accepted (graph_in c.args.check.now) c.args.check.now.property (wide_assumed c.args.assumed.now c.args.winners.now) c.args.tree.now c.in-SplitWinner.on_yes.value c.in-SplitWinner.on_no.value c.in-SplitWinner.task.0 c.in-SplitWinner.argument.0 (c.node.ensures ∙ ap node_of c.in-SplitWinner.is) c.requires.accepted).1,
   ),
 )
 
@@ -29,7 +29,7 @@ ends_in_tree-requires-in-SplitWinner-2 t c = (
     c.requires.check,
     branch_accepted (graph_in c.args.check.now) c.args.check.now.property c.args.assumed.now c.args.winners.now c.as_slice-in-SplitWinner-2.result.now c.in-SplitWinner.task c.in-SplitWinner.argument true c.deref-in-SplitWinner-2.result.now c.in-SplitWinner.on_yes.value
         (c.as_slice-in-SplitWinner-2.ensures.value ∙ c.in_ok-yes-in-SplitWinner.ensures) c.deref-in-SplitWinner-2.ensures
-        (winner_accepted (graph_in c.args.check.now) c.args.check.now.property (wide_assumed c.args.assumed.now c.args.winners.now) c.args.tree.now c.in-SplitWinner.on_yes.value c.in-SplitWinner.on_no.value c.in-SplitWinner.task.0 c.in-SplitWinner.argument.0 (c.node.ensures ∙ ap wide_node_of c.in-SplitWinner.is) c.requires.accepted).0,
+        (winner_accepted (graph_in c.args.check.now) c.args.check.now.property (wide_assumed c.args.assumed.now c.args.winners.now) c.args.tree.now c.in-SplitWinner.on_yes.value c.in-SplitWinner.on_no.value c.in-SplitWinner.task.0 c.in-SplitWinner.argument.0 (c.node.ensures ∙ ap node_of c.in-SplitWinner.is) c.requires.accepted).0,
   ),
 )
 
@@ -44,7 +44,7 @@ returns-in_ok-found-in-SplitInput t c =
     let is_on : on ≡ input_split l i true = λ j. record { assumed = c.with_input-yes.ensures j; wins = all_leave c.args.winners.now } in
     let is_off : off ≡ input_split l i false = λ j. record { assumed = c.with_input-no.ensures j; wins = all_leave c.args.winners.now } in
     joins_last (tree_ends (written g p on c.deref-in-SplitInput.result.now)) (tree_ends (written g p off c.deref.result.now)) (tree_ends (written g p l c.args.tree.now)) c.args.others.now c.as_slice.result.now c.in_ok-found-in-SplitInput.found.items c.ends_in_tree-in-SplitInput.result c.as_slice.ensures.value c.in_ok-found-in-SplitInput.ensures c.ends_in_tree-in-SplitInput.ensures
-    (input_ends g p l on off c.args.tree.now c.deref-in-SplitInput.result.now c.deref.result.now c.in-SplitInput.on_true.value c.in-SplitInput.on_false.value i (c.node.ensures ∙ ap wide_node_of c.in-SplitInput.is) is_on is_off c.deref-in-SplitInput.ensures c.deref.ensures)
+    (input_ends g p l on off c.args.tree.now c.deref-in-SplitInput.result.now c.deref.result.now c.in-SplitInput.on_true.value c.in-SplitInput.on_false.value i (c.node.ensures ∙ ap node_of c.in-SplitInput.is) is_on is_off c.deref-in-SplitInput.ensures c.deref.ensures)
 
 pub returns-in_ok-found-in-SplitEnd-2 : goal.returns-in_ok-found-in-SplitEnd-2
 returns-in_ok-found-in-SplitEnd-2 t c =
@@ -65,7 +65,7 @@ returns-in_ok-found-in-SplitEnd-2 t c =
     joins_last ran (λ t. either (canceled t) (faulted t)) (tree_ends (written g p l c.args.tree.now)) c.args.others.now c.as_slice-in-SplitEnd-2.result.now c.in_ok-found-in-SplitEnd-2.found.items c.ends_in_tree-in-SplitEnd-3.result c.as_slice-in-SplitEnd-2.ensures.value
     (joins_both canceled faulted c.args.others.now c.as_slice-in-SplitEnd.result.now c.in_ok-found-in-SplitEnd.found.items c.in_ok-found-in-SplitEnd-2.found.items c.as_slice-in-SplitEnd.ensures.value c.in_ok-found-in-SplitEnd.ensures c.in_ok-found-in-SplitEnd-2.ensures)
     c.ends_in_tree-in-SplitEnd-3.ensures
-    (end_ends g p l x y z c.args.tree.now c.deref-in-SplitEnd-3.result.now c.deref-in-SplitEnd-2.result.now c.deref-in-SplitEnd.result.now c.in-SplitEnd.ran.value c.in-SplitEnd.canceled.value c.in-SplitEnd.faulted.value s (c.node.ensures ∙ ap wide_node_of c.in-SplitEnd.is) same_x same_y same_z c.deref-in-SplitEnd-3.ensures c.deref-in-SplitEnd-2.ensures c.deref-in-SplitEnd.ensures)
+    (end_ends g p l x y z c.args.tree.now c.deref-in-SplitEnd-3.result.now c.deref-in-SplitEnd-2.result.now c.deref-in-SplitEnd.result.now c.in-SplitEnd.ran.value c.in-SplitEnd.canceled.value c.in-SplitEnd.faulted.value s (c.node.ensures ∙ ap node_of c.in-SplitEnd.is) same_x same_y same_z c.deref-in-SplitEnd-3.ensures c.deref-in-SplitEnd-2.ensures c.deref-in-SplitEnd.ensures)
 
 pub returns-in_ok-found-in-SplitWinner : goal.returns-in_ok-found-in-SplitWinner
 returns-in_ok-found-in-SplitWinner t c =
@@ -80,4 +80,4 @@ returns-in_ok-found-in-SplitWinner t c =
     let is_on = one_more_split a c.args.winners.now c.as_slice-in-SplitWinner-2.result.now n x true (c.as_slice-in-SplitWinner-2.ensures.value ∙ c.in_ok-yes-in-SplitWinner.ensures) in
     let is_off = one_more_split a c.args.winners.now c.as_slice-in-SplitWinner.result.now n x false (c.as_slice-in-SplitWinner.ensures.value ∙ c.in_ok-no-in-SplitWinner.ensures) in
     joins_last (tree_ends (written g p on c.deref-in-SplitWinner-2.result.now)) (tree_ends (written g p off c.deref-in-SplitWinner.result.now)) (tree_ends (written g p l c.args.tree.now)) c.args.others.now c.as_slice-in-SplitWinner-3.result.now c.in_ok-found-in-SplitWinner.found.items c.ends_in_tree-in-SplitWinner-2.result c.as_slice-in-SplitWinner-3.ensures.value c.in_ok-found-in-SplitWinner.ensures c.ends_in_tree-in-SplitWinner-2.ensures
-    (winner_ends g p l on off c.args.tree.now c.deref-in-SplitWinner-2.result.now c.deref-in-SplitWinner.result.now c.in-SplitWinner.on_yes.value c.in-SplitWinner.on_no.value n.0 x.0 (c.node.ensures ∙ ap wide_node_of c.in-SplitWinner.is) is_on is_off c.deref-in-SplitWinner-2.ensures c.deref-in-SplitWinner.ensures)
+    (winner_ends g p l on off c.args.tree.now c.deref-in-SplitWinner-2.result.now c.deref-in-SplitWinner.result.now c.in-SplitWinner.on_yes.value c.in-SplitWinner.on_no.value n.0 x.0 (c.node.ensures ∙ ap node_of c.in-SplitWinner.is) is_on is_off c.deref-in-SplitWinner-2.ensures c.deref-in-SplitWinner.ensures)

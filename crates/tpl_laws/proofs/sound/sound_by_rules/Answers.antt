@@ -1,4 +1,4 @@
-use Rattle.tpl_laws.proofs.Plainly.{sound_lem}
+use Rattle.tpl_laws.proofs.PlainSound.{sound_lem}
 use Rattle.tpl_laws.proofs.sound.sound_by_rules.Goals as goal
 
 pub returns : goal.returns

@@ -3,7 +3,6 @@ use Rattle.tpl_json.specs.View.{view}
 use Rattle.tpl_json.specs.Passes.{at_number}
 use Rattle.tpl_json.proofs.Reading.{each_yields}
 use Rattle.tpl_model.specs.declared.rule_set.RuleSet.TheVariants.{Narrow}
-use Rattle.tpl_model.specs.WiderRules.{as_wide_tree}
 use Rattle.tpl_cert.specs.Spelled.{read_tree}
 use Rattle.tpl_reader.proofs.TreeLaws.{tree_numbered, plain_within}
 use Rattle.tpl_reader.proofs.trees.plain_trees_in.Goals as goal

@@ -1,7 +1,8 @@
 use Rattle.std.proofs.Common.{◌≡◌, ◌∙◌, ◌+◌, ℕ, [], Option, Some, None, Err, refl, subst, sym, arith}
 use Rattle.tpl_model.proofs.Truths.{true_false}
 use Rattle.tpl_model.specs.declared.fault.CertFault.{CertFault}
-use Rattle.tpl_laws.specs.WideVerdict.{wide_leaves}
+use Rattle.tpl_laws.specs.Verdict.{leaves}
+use Rattle.tpl_laws.specs.WideVerdict.{}
 use Rattle.tpl_leaf.specs.Leaf.{wide_assumed}
 use Rattle.tpl_wide.specs.declared.error.WideFault.{WideFault}
 use Rattle.tpl_wide.specs.declared.error.WideFault.TheVariants.{Fails}
@@ -38,4 +39,4 @@ returns-in-Err-Fails c =
     let g = graph_in c.args.check.now in
     let p = c.args.check.now.property in
     let right = c.wide_tree_is_right.ensures g p c.args.check.now.claim (wide_assumed c.args.assumed.now []) 1 c.args.tree.now c.valid_law.ensures.graph in
-    (λ e. true_false (sym e), λ a. no_some _ (sym (failed _ (1 + wide_leaves c.args.tree.now) c.in-Err-Fails.field-0 _ c.in-Err-Fails.field-0-is c.in-Err-Fails.ensures) ∙ (right.1 a).1))
+    (λ e. true_false (sym e), λ a. no_some _ (sym (failed _ (1 + leaves c.args.tree.now) c.in-Err-Fails.field-0 _ c.in-Err-Fails.field-0-is c.in-Err-Fails.ensures) ∙ (right.1 a).1))

@@ -1,8 +1,8 @@
 use Rattle.std.proofs.Common.{ℕ, Bool, not, true, false, [], map, ap, sym, ◌∙◌}
 use Rattle.tpl_draft.specs.Ids.{task_number}
 use Rattle.tpl_model.specs.Knowledge.{IsSettled, IsRequested}
-use Rattle.tpl_model.specs.WiderRules.{WideRow}
-use Rattle.tpl_trees.specs.WideCoding.{tokens_in}
+use Rattle.tpl_model.specs.Certificate.{Row}
+use Rattle.tpl_trees.specs.Coding.{tokens_in}
 use Rattle.tpl_laws.specs.LeastRows.{begun_row, tasks_where, tokens_where}
 use Rattle.tpl_leaf.specs.declared.leaf.Leaf.{Leaf}
 use Rattle.tpl_leaf.specs.Leaf.{graph_of, assumed_in, rows_in}
@@ -10,7 +10,7 @@ use Rattle.tpl_wide.proofs.RowLemmas.{no_tokens_in, row_is, wide_row_is}
 use Rattle.tpl_wide.proofs.begun.begun_row.Goals as goal
 
 -- the row of a task once it is known whether it has to run
-abbrev row_unless : Leaf → ℕ → Bool → WideRow
+abbrev row_unless : Leaf → ℕ → Bool → Row
 row_unless leaf t runs = begun_row (graph_of leaf) (assumed_in leaf) (rows_in leaf) t (not runs)
 
 pub begin_facts-requires-clause-begins : goal.begin_facts-requires-clause-begins

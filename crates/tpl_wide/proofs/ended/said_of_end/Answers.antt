@@ -1,6 +1,6 @@
 use Rattle.std.proofs.Common.{ℕ, Bool, if◌then◌else◌, List, [], ap, sym, ◌∙◌}
 use Rattle.tpl_model.specs.Knowledge.{IsSettled, IsRequested}
-use Rattle.tpl_trees.specs.WideCoding.{tokens_in}
+use Rattle.tpl_trees.specs.Coding.{tokens_in}
 use Rattle.tpl_laws.specs.LeastRows.{tasks_where, tokens_where}
 use Rattle.tpl_leaf.specs.declared.leaf.Leaf.{Leaf}
 use Rattle.tpl_leaf.specs.Leaf.{graph_of}

@@ -1,6 +1,6 @@
 use Rattle.std.proofs.Common.{not, subst, ◌∙◌, slice_set}
 use Rattle.tpl_model.specs.Graph.{kind}
-use Rattle.tpl_model.specs.WiderRules.{WideRow}
+use Rattle.tpl_model.specs.Certificate.{Row}
 use Rattle.tpl_laws.specs.WiderTests.{wide_runs_by}
 use Rattle.tpl_laws.specs.LeastRows.{begun_row}
 use Rattle.tpl_wide.specs.Case.{graph_by}
@@ -13,7 +13,7 @@ put-requires-clause-ends c = has_end (graph_by c.args.case.now) c.args.rows.now 
 
 pub returns : goal.returns
 returns c =
-    subst (λ (row : WideRow). AreRows (graph_by c.args.case.now) (slice_set c.args.rows.now.rows.items c.args.task.0 row) c.put.new.self)
+    subst (λ (row : Row). AreRows (graph_by c.args.case.now) (slice_set c.args.rows.now.rows.items c.args.task.0 row) c.put.new.self)
     (c.begun_row-row.ensures
     ∙ (λ i. begun_row (c.leaf.ensures.graph i) (c.leaf.ensures.assumed i) (c.leaf.ensures.rows i) c.args.task.0
     (not (wide_runs_by (c.leaf.ensures.graph i) (c.leaf.ensures.assumed i) (c.leaf.ensures.rows i) c.args.task.0 (kind (c.leaf.ensures.graph i) c.args.task.0)))))

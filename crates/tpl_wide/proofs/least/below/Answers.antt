@@ -1,6 +1,6 @@
 use Rattle.std.proofs.Common.{List, length, sym, subst, ◌∙◌}
 use Rattle.std.specs.Prelude.{IfOk}
-use Rattle.tpl_model.specs.WiderRules.{WideRow}
+use Rattle.tpl_model.specs.Certificate.{Row}
 use Rattle.tpl_laws.specs.RowTests.{is_below}
 use Rattle.tpl_laws.specs.LeastRows.{begin_step, end_step}
 use Rattle.tpl_wide.specs.Case.{assumed_by, begun_below, ended_below, graph_by}
@@ -19,4 +19,4 @@ returns-then-not-has_attached c =
     }
 
 pub returns : goal.returns
-returns c = subst (λ (xs : List WideRow). IfOk c.end_below.result (λ u. AreRows (graph_by c.args.case.now) (ended_below c.args.case.now c.args.task.0 xs) c.end_below.new.rows)) c.begin_below.ensures.same c.end_below.ensures
+returns c = subst (λ (xs : List Row). IfOk c.end_below.result (λ u. AreRows (graph_by c.args.case.now) (ended_below c.args.case.now c.args.task.0 xs) c.end_below.new.rows)) c.begin_below.ensures.same c.end_below.ensures

@@ -4,7 +4,8 @@ use Rattle.tpl_model.specs.declared.ids.TaskId.{TaskId}
 use Rattle.tpl_model.specs.Certificate.{Assumed}
 use Rattle.tpl_model.specs.WiderRules.{widely_assumed}
 use Rattle.tpl_graph.specs.Fits.{TasksOf}
-use Rattle.tpl_laws.specs.WideVerdict.{wide_leaves, wide_tree_fault}
+use Rattle.tpl_laws.specs.Verdict.{leaves}
+use Rattle.tpl_laws.specs.WideVerdict.{wide_tree_fault}
 use Rattle.tpl_wide.specs.Faults.{WidelyFailing}
 use Rattle.tpl_wide.proofs.WideShapeLemmas.{at_most_729_leaves}
 use Rattle.tpl_wide.proofs.verdict.claim_fault.Goals as goal
@@ -24,5 +25,5 @@ returns c =
     let g = c.args.graph.now.graph in
     let n = c.args.number in
     let tree = c.args.tree.now in
-    subst (λ (p : Property TaskId). WidelyFailing (wide_tree_fault g p n (widely_assumed g c.args.claim.now) 1 tree) (1 + wide_leaves tree) c.tree_fault.result) c.body.ensures
-    (subst (λ (a : Assumed). WidelyFailing (wide_tree_fault g c.body.result n (record { assumed = a; wins = λ m y. true }) 1 tree) (1 + wide_leaves tree) c.tree_fault.result) c.assumed_for-assumed.ensures c.tree_fault.ensures)
+    subst (λ (p : Property TaskId). WidelyFailing (wide_tree_fault g p n (widely_assumed g c.args.claim.now) 1 tree) (1 + leaves tree) c.tree_fault.result) c.body.ensures
+    (subst (λ (a : Assumed). WidelyFailing (wide_tree_fault g c.body.result n (record { assumed = a; wins = λ m y. true }) 1 tree) (1 + leaves tree) c.tree_fault.result) c.assumed_for-assumed.ensures c.tree_fault.ensures)

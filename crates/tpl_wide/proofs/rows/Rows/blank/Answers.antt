@@ -1,6 +1,6 @@
 use Rattle.std.proofs.Common.{◌≡◌, List, [], ◌∷◌, ◌++◌, length, map, replicate, ap, ◌∙◌, arith}
 use Rattle.std.proofs.lemmas.List.{length-replicate, replicate_more}
-use Rattle.tpl_model.specs.WiderRules.{WideRow}
+use Rattle.tpl_model.specs.Certificate.{Row}
 use Rattle.tpl_laws.specs.LeastRows.{blank_row}
 use Rattle.tpl_leaf.specs.Leaf.{row_end}
 use Rattle.tpl_wide.proofs.rows.Rows.blank.Goals as goal
@@ -19,7 +19,7 @@ returns c =
     record {
       same = same;
       kept = record {
-        count = ap (λ (xs : List WideRow). length xs) same ∙ length-replicate n blank_row;
-        ends = c.in_ok-ends.ensures ∙ ap (λ (xs : List WideRow). map row_end xs) c.as_slice.ensures.value;
+        count = ap (λ (xs : List Row). length xs) same ∙ length-replicate n blank_row;
+        ends = c.in_ok-ends.ensures ∙ ap (λ (xs : List Row). map row_end xs) c.as_slice.ensures.value;
       };
     }

@@ -1,7 +1,7 @@
 use Rattle.std.proofs.Common.{ap, subst}
 use Rattle.tpl_trees.specs.Sets.{IsSet}
 use Rattle.tpl_trees.proofs.TokenLists.{token_set}
-use Rattle.tpl_trees.proofs.wide_row.WideRow.sets_law.Goals as goal
+use Rattle.tpl_trees.proofs.row.Row.sets_law.Goals as goal
 
 pub returns : goal.returns
 returns c = (
