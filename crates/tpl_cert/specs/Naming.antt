@@ -32,24 +32,24 @@ set_in most names texts = do
   Ok (as_set most ns)
 
 -- a row, without its tokens
-unfoldable pub row_in : Names → NamedRow → Result PlainRow TreeFault
-row_in n r = do
+unfoldable pub plain_row_in : Names → NamedRow → Result PlainRow TreeFault
+plain_row_in n r = do
   before ← set_in MOST_TASKS n.tasks r.before
   past ← set_in MOST_TASKS n.tasks r.past
   chain ← numbers_in n.tasks r.chain
   Ok (record { ends = r.ends; runs = r.runs; before = before; past = past; chain = chain })
 
 -- a row
-unfoldable pub wide_row_in : Names → NamedRow → Result Row TreeFault
-wide_row_in n r = do
-  row ← row_in n r
+unfoldable pub row_in : Names → NamedRow → Result Row TreeFault
+row_in n r = do
+  row ← plain_row_in n r
   asked ← set_in MOST_TOKENS n.tokens r.asked
   asks ← set_in MOST_TOKENS n.tokens r.asks
   Ok (record { row = row; asked = asked; asks = asks })
 
 -- the rows of a leaf
-abbrev pub wide_rows_in : Names → List NamedRow → Result (List Row) TreeFault
-wide_rows_in n rows = each_from (λ k r. wide_row_in n r) 1 rows
+abbrev pub rows_in : Names → List NamedRow → Result (List Row) TreeFault
+rows_in n rows = each_from (λ k r. row_in n r) 1 rows
 
 -- a tree
 unfoldable pub tree_in : Names → NamedTree → Result Tree TreeFault
@@ -71,6 +71,6 @@ tree_in n (SplitWinner name other a b) = do
   on_no ← tree_in n b
   Ok (OnWinner task argument on_yes on_no)
 tree_in n (Leaf rows) = do
-  rows ← wide_rows_in n rows
+  rows ← rows_in n rows
   Ok (RowsLeaf rows)
 tree_in n Least = Ok LeastLeaf

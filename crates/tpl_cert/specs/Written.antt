@@ -108,10 +108,6 @@ HasSets (OnWinner t x a b) = HasSets a × HasSets b
 HasSets (RowsLeaf rows) = All HasRowSets rows
 HasSets LeastLeaf = Unit {0}
 
--- a row of which nothing is said of tokens
-abbrev pub bare : PlainRow → Row
-bare r = record { row = r; asked = []; asks = [] }
-
 -- ---- what a writer has written
 
 -- these tokens come after those that were written before

@@ -5,9 +5,9 @@ ghost use Rattle.std.specs.List.{list_all};
 ghost use Rattle.json.specs.Token as token;
 ghost use Rattle.serde_json.specs.Data.{array, string};
 ghost use Rattle.serde_json.specs.View.{items_of};
-ghost use Rattle.tpl_cert.specs.Prelude.{HasRowSets, Puts, PutsMembers, PutsValue, Writes, bare, has_row_ids, has_task_ids, is_id, name_at, names_data, row_data, row_members, texts_data, word_if, words_of};
+ghost use Rattle.tpl_cert.specs.Prelude.{HasRowSets, Puts, PutsMembers, PutsValue, Writes, has_row_ids, has_task_ids, is_id, name_at, names_data, row_data, row_members, texts_data, word_if, words_of};
 ghost use Rattle.tpl_draft.specs.Prelude.{task_number};
-ghost use Rattle.tpl_model.specs.Prelude.{IsTaskSet};
+ghost use Rattle.tpl_model.specs.Prelude.{ArePlain, IsTaskSet};
 ghost use Rattle.tpl_model.specs.declared.rule_set.RuleSet.TheVariants.{Narrow, Wide};
 ghost use Rattle.tpl_trees.specs.Prelude.{HasTaskSets, tokens_in};
 
@@ -15,7 +15,7 @@ use crate::fault::TreeToFault;
 use json::Writer;
 use std::alloc::AllocError;
 use tpl_graph::Graph;
-use tpl_model::{Finals, MOST_TOKENS, TaskId, TaskSet, TokenId};
+use tpl_model::{Finals, MOST_TOKENS, RuleSet, TaskId, TaskSet, TokenId};
 use tpl_paths::TokenSet;
 use tpl_trees::{PlainRow, Row};
 
@@ -171,14 +171,16 @@ fn write_members(graph: &Graph, row: &PlainRow, out: &mut Writer) -> Result<(), 
     Ok(())
 }
 
-/// A row by the narrow rules.
-fn write_row(graph: &Graph, row: &PlainRow, out: &mut Writer) -> Result<(), TreeToFault>
-    ensures { Writes result (has_row_ids graph.now.names (bare row.now))
-        (λ _. PutsValue (row_data Narrow graph.now.names (bare row.now)) out.old out.new
-        × HasRowSets (bare row.now)) }
+/// A row that says nothing of tokens, by the narrow rules.
+fn write_plain_row(graph: &Graph, row: &Row, out: &mut Writer) -> Result<(), TreeToFault>
+    requires { (row.now.asked ≡ []) × (row.now.asks ≡ []) }
+    ensures { Writes result (has_row_ids graph.now.names row.now)
+        (λ _. PutsValue (row_data Narrow graph.now.names row.now) out.old out.new
+        × HasRowSets row.now) }
 {
+    row.sets_law();
     out.begin_object()?;
-    write_members(graph, row, out)?;
+    write_members(graph, row.row(), out)?;
     Ok(())
 }
 
@@ -197,33 +199,39 @@ fn write_wide_row(graph: &Graph, row: &Row, out: &mut Writer) -> Result<(), Tree
     Ok(())
 }
 
-/// The rows of a leaf by the narrow rules.
-pub(crate) fn write_rows(graph: &Graph, rows: &[PlainRow], out: &mut Writer) -> Result<(), TreeToFault>
-    ensures { Writes result (list_all (has_row_ids graph.now.names) (as_wide rows.now))
-        (λ _. PutsValue (array (items_of (map (row_data Narrow graph.now.names)
-        (as_wide rows.now)))) out.old out.new × All HasRowSets (as_wide rows.now)) }
+/// A row by the rules.
+fn write_row(
+    graph: &Graph,
+    rules: RuleSet,
+    row: &Row,
+    out: &mut Writer,
+) -> Result<(), TreeToFault>
+    requires { rules ≡ Narrow → (row.now.asked ≡ []) × (row.now.asks ≡ []) }
+    ensures { Writes result (has_row_ids graph.now.names row.now)
+        (λ _. PutsValue (row_data rules graph.now.names row.now) out.old out.new
+        × HasRowSets row.now) }
 {
-    out.begin_array()?;
-    for row in rows {
-        write_row(graph, row, out)?;
+    match rules {
+        RuleSet::Narrow => write_plain_row(graph, row, out),
+        RuleSet::Wide => write_wide_row(graph, row, out),
     }
-    out.end_array()?;
-    Ok(())
 }
 
-/// The rows of a leaf by the wide rules.
-pub(crate) fn write_wide_rows(
+/// The rows of a leaf by the rules.
+pub(crate) fn write_rows(
     graph: &Graph,
+    rules: RuleSet,
     rows: &[Row],
     out: &mut Writer,
 ) -> Result<(), TreeToFault>
+    requires { rules ≡ Narrow → ArePlain rows.now }
     ensures { Writes result (list_all (has_row_ids graph.now.names) rows.now)
-        (λ _. PutsValue (array (items_of (map (row_data Wide graph.now.names) rows.now)))
+        (λ _. PutsValue (array (items_of (map (row_data rules graph.now.names) rows.now)))
         out.old out.new × All HasRowSets rows.now) }
 {
     out.begin_array()?;
     for row in rows {
-        write_wide_row(graph, row, out)?;
+        write_row(graph, rules, row, out)?;
     }
     out.end_array()?;
     Ok(())

@@ -62,6 +62,8 @@ impl Row {
     {
         let (asked, asks) = (self.asked, self.asks);
         let none = TokenSet::empty();
+        asked.limit_law();
+        asks.limit_law();
         asked.is_subset(none) && asks.is_subset(none)
     }
 

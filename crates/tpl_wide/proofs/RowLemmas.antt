@@ -2,12 +2,8 @@
 use Rattle.std.proofs.Common.{◌≡◌, ℕ, zero, suc, Bool, false, if◌then◌else◌, List, [], ◌∷◌, length, map, slice_set, refl, sym, ap, ◌∙◌, ◌<◌, subst}
 use Rattle.std.proofs.lemmas.List.{length-set, map-set, length-map}
 use Rattle.tpl_model.specs.declared.finals.Finals.{Finals}
-use Rattle.tpl_model.specs.TaskSet.{passing_from}
 use Rattle.tpl_model.specs.Graph.{TaskGraph}
 use Rattle.tpl_model.specs.Certificate.{PlainRow, Row}
-use Rattle.tpl_trees.specs.Coding.{tokens_in}
-use Rattle.tpl_paths.proofs.TokenBits.{none_set}
-use Rattle.tpl_paths.specs.TokenSet.{has_token, no_tokens}
 use Rattle.tpl_paths.specs.declared.reading.ChildEnd.{ChildEnd as StoredChildEnd}
 use Rattle.tpl_paths.specs.Reading.{end_of}
 use Rattle.tpl_leaf.specs.Leaf.{row_end}
@@ -36,11 +32,3 @@ row_is r ends runs before past chain e u b p c = λ i. record { ends = e i; runs
 
 pub wide_row_is : (r : Row) (row : PlainRow) (asked asks : List ℕ) → r.row ≡ row → r.asked ≡ asked → r.asks ≡ asks → r ≡ record { row = row; asked = asked; asks = asks }
 wide_row_is r row asked asks e a b = λ i. record { row = e i; asked = a i; asks = b i }
-
-none_passing : (test : ℕ → Bool) → ((x : ℕ) → test x ≡ false) → (low n : ℕ) → passing_from test low n ≡ []
-none_passing test none low zero = refl
-none_passing test none low (suc n) = ap (λ b. if b then (low ∷ passing_from test (suc low) n) else passing_from test (suc low) n) (none low) ∙ none_passing test none (suc low) n
-
-pub no_tokens_in : tokens_in no_tokens ≡ []
-unfolding tokens_in
-no_tokens_in = none_passing (has_token no_tokens) none_set 0 32

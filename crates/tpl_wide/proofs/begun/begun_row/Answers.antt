@@ -6,7 +6,8 @@ use Rattle.tpl_trees.specs.Coding.{tokens_in}
 use Rattle.tpl_laws.specs.LeastRows.{begun_row, tasks_where, tokens_where}
 use Rattle.tpl_leaf.specs.declared.leaf.Leaf.{Leaf}
 use Rattle.tpl_leaf.specs.Leaf.{graph_of, assumed_in, rows_in}
-use Rattle.tpl_wide.proofs.RowLemmas.{no_tokens_in, row_is, wide_row_is}
+use Rattle.tpl_trees.proofs.TokenLists.{no_tokens_in}
+use Rattle.tpl_wide.proofs.RowLemmas.{row_is, wide_row_is}
 use Rattle.tpl_wide.proofs.begun.begun_row.Goals as goal
 
 -- the row of a task once it is known whether it has to run

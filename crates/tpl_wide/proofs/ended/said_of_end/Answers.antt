@@ -5,7 +5,7 @@ use Rattle.tpl_laws.specs.LeastRows.{tasks_where, tokens_where}
 use Rattle.tpl_leaf.specs.declared.leaf.Leaf.{Leaf}
 use Rattle.tpl_leaf.specs.Leaf.{graph_of}
 use Rattle.tpl_leaf.specs.LeafRules.{ends_as, kind_left_in}
-use Rattle.tpl_wide.proofs.RowLemmas.{no_tokens_in}
+use Rattle.tpl_trees.proofs.TokenLists.{no_tokens_in}
 use Rattle.tpl_wide.proofs.ended.said_of_end.Goals as goal
 
 -- what may be said of the end of a task, if it ends

@@ -2,7 +2,8 @@ use Rattle.std.proofs.Common.{false, [], map, ap, ◌∙◌}
 use Rattle.tpl_draft.specs.Ids.{task_number}
 use Rattle.tpl_trees.specs.Coding.{tokens_in}
 use Rattle.tpl_laws.specs.LeastRows.{blank_row}
-use Rattle.tpl_wide.proofs.RowLemmas.{no_tokens_in, row_is, wide_row_is}
+use Rattle.tpl_trees.proofs.TokenLists.{no_tokens_in}
+use Rattle.tpl_wide.proofs.RowLemmas.{row_is, wide_row_is}
 use Rattle.tpl_wide.proofs.rows.blank_row.Goals as goal
 
 pub returns : goal.returns
