@@ -1,14 +1,13 @@
 -- Trees for the claims, one after another.
-use Rattle.std.proofs.Common.{ℕ, suc, ◌+◌, ◌<◌, ◌≤◌, ◌++◌, List, [], ◌∷◌, take, drop, length, get_or, map, refl, sym, ap, ◌∙◌, subst, slice_index_or, arith, false}
+use Rattle.std.proofs.Common.{ℕ, suc, ◌+◌, ◌<◌, ◌≤◌, ◌++◌, List, [], ◌∷◌, take, drop, length, refl, sym, ap, ◌∙◌, subst, slice_index_or, arith, false}
 use Rattle.std.specs.List.{All}
 use Rattle.std.proofs.lemmas.List.{take_more, take_all, take-append-drop, length-take-le}
-use Rattle.std.proofs.lemmas.List.Elements.{All-push, All-nil, All-map}
+use Rattle.std.proofs.lemmas.List.Elements.{All-push, All-nil}
 use Rattle.std.proofs.Math.Seq.{drop-cons}
 use Rattle.tpl_model.specs.Graph.{TaskGraph}
 use Rattle.tpl_model.specs.Claims.{Claim}
 use Rattle.tpl_model.specs.Certificate.{Tree, AcceptsTree, Accepts, assumed_for}
 use Rattle.tpl_model.specs.declared.rule_set.RuleSet.TheVariants.{Narrow}
-use Rattle.tpl_trees.proofs.WithinLimits.{same_height}
 use Rattle.tpl_trees.specs.Heights.{height, IsWithinLimits}
 use Rattle.tpl_analyser.specs.declared.form.Form.{Form}
 use Rattle.tpl_analyser.specs.Found.{IsFound}
@@ -53,9 +52,9 @@ module _ (g : TaskGraph) (claims : List Claim) (form : Form) (depth i : ℕ) (tr
     behind = drop (suc i) claims;
     claims_are = sym (take-append-drop i claims) ∙ ap (λ (cs : List Claim). take i claims ++ cs) (drop-cons claims i d lt);
     at = let short : i ≤ length claims = omega arith in ap (λ n. n + 1) (sym (length-take-le i claims short));
-    trees = map as_wide_tree trees;
-    accepted = (trees, refl, so_far.accepted);
-    splits = All-map (λ (t : Tree). height t ≤ depth) as_wide_tree trees (λ k t lt. subst (λ n. n ≤ depth) (sym (same_height (get_or trees k t))) (so_far.splits k t lt));
+    trees = trees;
+    accepted = so_far.accepted;
+    splits = so_far.splits;
   }
 
 pub all_found : (g : TaskGraph) (claims : List Claim) (form : Form) (depth i : ℕ) (trees : List Tree) → length claims ≤ i → FoundSoFar g claims form depth i trees → Accepts g claims trees

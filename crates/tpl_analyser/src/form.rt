@@ -6,7 +6,7 @@ ghost use Rattle.tpl_model.specs.Prelude.{mem};
 
 use std::alloc::{AllocError, Global};
 use tpl_model::{MOST_TASKS, Property, TaskSet};
-use tpl_trees::PlainRow;
+use tpl_trees::{PlainRow, Row};
 
 /// How much the rows of a certificate say in `before` and `past`. By the wide rules a leaf may leave its rows out, and does
 /// so but where they are asked for.
@@ -25,8 +25,8 @@ pub(crate) fn in_form(
     alloc: Global,
     form: Form,
     property: Property,
-    rows: Vec<PlainRow>,
-) -> Result<Vec<PlainRow>, AllocError>
+    rows: Vec<Row>,
+) -> Result<Vec<Row>, AllocError>
     ensures { IfOk result (λ given. AreOfForm form property given.items) }
 {
     match form {
@@ -36,7 +36,7 @@ pub(crate) fn in_form(
 }
 
 /// The rows with what the proof of the property uses.
-fn slim(alloc: Global, property: Property, rows: &[PlainRow]) -> Result<Vec<PlainRow>, AllocError>
+fn slim(alloc: Global, property: Property, rows: &[Row]) -> Result<Vec<Row>, AllocError>
     ensures { IfOk result (λ slim. All (IsSlimRow property) slim.items) }
 {
     let used = used(property);
@@ -48,16 +48,18 @@ fn slim(alloc: Global, property: Property, rows: &[PlainRow]) -> Result<Vec<Plai
 }
 
 /// The row with only these tasks left in `before` and `past`.
-fn with_used(alloc: Global, row: &PlainRow, used: &TaskSet) -> Result<PlainRow, AllocError>
+fn with_used(alloc: Global, row: &Row, used: &TaskSet) -> Result<Row, AllocError>
     ensures before { IfOk result (λ slim. (x : ℕ)
-        → mem x slim.before ≡ (mem x row.now.before && mem x used.now)) }
+        → mem x slim.row.before ≡ (mem x row.now.row.before && mem x used.now)) }
     ensures past { IfOk result (λ slim. (x : ℕ)
-        → mem x slim.past ≡ (mem x row.now.past && mem x used.now)) }
+        → mem x slim.row.past ≡ (mem x row.now.row.past && mem x used.now)) }
 {
-    let chain = row.chain().to_vec(alloc)?;
-    let before = row.before().intersection(used);
-    let past = row.past().intersection(used);
-    Ok(PlainRow::new(row.ends(), row.runs(), before, past, chain))
+    let said = row.row();
+    let chain = said.chain().to_vec(alloc)?;
+    let before = said.before().intersection(used);
+    let past = said.past().intersection(used);
+    let kept = PlainRow::new(said.ends(), said.runs(), before, past, chain);
+    Ok(Row::new(kept, row.asked(), row.asks()))
 }
 
 /// The tasks that the proof of the property needs in `before` and `past`.

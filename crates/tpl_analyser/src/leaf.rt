@@ -14,7 +14,7 @@ use std::alloc::{AllocError, Global};
 use tpl_checker::accepts_leaf;
 use tpl_model::TaskId;
 use tpl_outline::{least_rows, reached};
-use tpl_trees::{Node, PlainRow, Tree, is_within_limits};
+use tpl_trees::{Node, Row, Tree, is_within_limits};
 use tpl_wide::{Check, least_leaf_proves};
 
 /// The rows of so many tasks are worked out in the time in which a leaf is tried by what becomes of tasks alone.
@@ -93,7 +93,7 @@ fn rows_of(
     question: Question<'_>,
     branch: &Branch,
     chain: &[TaskId],
-) -> Result<Vec<PlainRow>, AllocError>
+) -> Result<Vec<Row>, AllocError>
     requires { IsReady question }
     ensures { IfOk result (λ rows.
         AreOfForm question.entry.form question.entry.property rows.items) }
@@ -104,7 +104,7 @@ fn rows_of(
 }
 
 /// A leaf with these rows, if it is accepted and within the limits.
-fn tested(question: Question<'_>, branch: &Branch, rows: Vec<PlainRow>) -> Option<Tree>
+fn tested(question: Question<'_>, branch: &Branch, rows: Vec<Row>) -> Option<Tree>
     requires question { IsReady question }
     requires form { AreOfForm question.form question.property rows.items }
     ensures { IfSome result (IsFound question.entry.graph.now.graph question.entry.property

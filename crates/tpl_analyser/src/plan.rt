@@ -4,7 +4,6 @@ ghost use Rattle.std.specs.Prelude.{◌≡◌, IfOk, IfSome};
 ghost use Rattle.tpl_analyser.specs.Prelude.{HasSplitsOf, IsFound, IsReady};
 ghost use Rattle.tpl_checker.specs.Prelude.{assumed_of};
 ghost use Rattle.tpl_model.specs.Prelude.{LeastLeaf, OnEnd, OnInput, OnWinner};
-ghost use Rattle.tpl_model.specs.Certificate.{SplitEnd, SplitInput};
 ghost use Rattle.tpl_trees.specs.Prelude.{height};
 
 use crate::branch::Branch;
@@ -67,36 +66,6 @@ pub(crate) fn winner_plan(
     Ok(Tree::new(node))
 }
 
-/// The split on an input with these branches.
-fn input_tree(
-    alloc: Global,
-    input: InputId,
-    on_true: Tree,
-    on_false: Tree,
-) -> Result<Tree, AllocError>
-    ensures { IfOk result (λ tree. tree ≡ SplitInput input.0 on_true on_false) }
-{
-    let on_true = Box::new(alloc, on_true)?;
-    let on_false = Box::new(alloc, on_false)?;
-    Ok(Tree::new(Node::SplitInput(input, on_true, on_false)))
-}
-
-/// The split on how a task ends with these branches.
-fn end_tree(
-    alloc: Global,
-    task: TaskId,
-    ran: Tree,
-    canceled: Tree,
-    faulted: Tree,
-) -> Result<Tree, AllocError>
-    ensures { IfOk result (λ tree. tree ≡ SplitEnd task.0 ran canceled faulted) }
-{
-    let ran = Box::new(alloc, ran)?;
-    let canceled = Box::new(alloc, canceled)?;
-    let faulted = Box::new(alloc, faulted)?;
-    Ok(Tree::new(Node::SplitEnd(task, ran, canceled, faulted)))
-}
-
 /// The tree with the splits of the plan, whose leaves have the least rows. By the narrow rules no tree splits on winners.
 #[cycle(grown)]
 pub(crate) fn grown(
@@ -148,7 +117,7 @@ fn grown_by_input(
     let Some(no) = grown(alloc, question, &on_false, no)? else {
         return Ok(None);
     };
-    let tree = input_tree(alloc, input, yes, no)?;
+    let tree = input_plan(alloc, input, yes, no)?;
     Ok(Some(tree))
 }
 
@@ -182,6 +151,6 @@ fn grown_by_end(
     let Some(faulted) = grown(alloc, question, &on_faulted, faulted)? else {
         return Ok(None);
     };
-    let tree = end_tree(alloc, task, ran, canceled, faulted)?;
+    let tree = end_plan(alloc, task, ran, canceled, faulted)?;
     Ok(Some(tree))
 }

@@ -5,8 +5,7 @@ use Rattle.std.proofs.lemmas.List.Elements.{All-nil, All-cons, All-head, All-tai
 use Rattle.tpl_model.proofs.Truths.{and_first, and_second}
 use Rattle.serde_json.specs.Data.{string}
 use Rattle.serde_json.specs.Find.{as_str}
-use Rattle.tpl_model.specs.Certificate.{PlainRow, Tree, Row, OnInput, OnEnd, OnWinner, RowsLeaf, LeastLeaf}
-use Rattle.tpl_model.specs.Certificate as tree
+use Rattle.tpl_model.specs.Certificate.{Row, ArePlain, IsPlain, Tree, OnInput, OnEnd, OnWinner, RowsLeaf, LeastLeaf}
 use Rattle.tpl_draft.specs.Named.{Names}
 use Rattle.tpl_draft.specs.Names.{some_twice}
 use Rattle.tpl_json.specs.Members.{◌>>=◌, has_only, text_in, list_or_none, each, texts_in}
@@ -14,8 +13,8 @@ use Rattle.tpl_json.specs.Finals.{no_finals, final_word, final_at, finals_at}
 use Rattle.tpl_trees.specs.Sets.{IsSet}
 use Rattle.tpl_cert.specs.NamedTrees.{NamedRow, NamedTree, SplitInput, SplitEnd, SplitWinner, Leaf, Least}
 use Rattle.tpl_cert.specs.Reading.{row_at, leaf_at, input_at, end_at, winner_at, node_at, whole_tree}
-use Rattle.tpl_cert.specs.Naming.{number_of, set_in, row_in, wide_row_in, tree_in}
-use Rattle.tpl_cert.specs.Written.{texts_data, words_of, row_data, tree_data, name_at, is_id, has_row_ids, has_ids, HasRowSets, HasSets, bare}
+use Rattle.tpl_cert.specs.Naming.{number_of, set_in, plain_row_in, row_in, tree_in}
+use Rattle.tpl_cert.specs.Written.{texts_data, words_of, row_data, tree_data, name_at, is_id, has_row_ids, has_ids, HasRowSets, HasSets}
 use Rattle.tpl_cert.specs.Spelled.{spelled_tree}
 use Rattle.tpl_model.specs.declared.rule_set.RuleSet.{RuleSet}
 use Rattle.tpl_model.specs.declared.rule_set.RuleSet.TheVariants.{Narrow, Wide}
@@ -42,14 +41,16 @@ Fits reading writing (OnWinner t x a b) = (reading ≡ Wide) × Fits reading wri
 Fits reading writing (RowsLeaf rows) = All (FitsRow reading writing) rows
 Fits reading writing LeastLeaf = reading ≡ Wide
 
-plain_rows_fit : (reading : RuleSet) (rows : List PlainRow) → All (FitsRow reading Narrow) (as_wide rows)
-plain_rows_fit reading [] = All-nil (FitsRow reading Narrow)
-plain_rows_fit reading (r ∷ rows) = All-cons (FitsRow reading Narrow) (bare r) (as_wide rows) (refl, refl) (plain_rows_fit reading rows)
+plain_rows_fit : (rows : List Row) → ArePlain rows → All (FitsRow Narrow Narrow) rows
+plain_rows_fit [] plain = All-nil (FitsRow Narrow Narrow)
+plain_rows_fit (r ∷ rows) plain = All-cons (FitsRow Narrow Narrow) r rows (plain.0, plain.1) (plain_rows_fit rows plain.2)
 
-plain_fits : (reading : RuleSet) (t : Tree) → Fits reading Narrow (as_wide_tree t)
-plain_fits reading (tree.SplitInput i a b) = (plain_fits reading a, plain_fits reading b)
-plain_fits reading (tree.SplitEnd t a b c) = (plain_fits reading a, plain_fits reading b, plain_fits reading c)
-plain_fits reading (tree.Leaf rows) = plain_rows_fit reading rows
+plain_fits : (t : Tree) → IsPlain t → Fits Narrow Narrow t
+plain_fits (OnInput i a b) plain = (plain_fits a plain.0, plain_fits b plain.1)
+plain_fits (OnEnd t a b c) plain = (plain_fits a plain.0, plain_fits b plain.1, plain_fits c plain.2)
+plain_fits (OnWinner n x a b) plain = absurd plain
+plain_fits (RowsLeaf rows) plain = plain_rows_fit rows plain
+plain_fits LeastLeaf plain = absurd plain
 
 wide_rows_fit : (rows : List Row) → All (FitsRow Wide Wide) rows
 wide_rows_fit [] = All-nil (FitsRow Wide Wide)
@@ -145,8 +146,8 @@ pub record AreOnce (n : Names) : Type 0 where
   pub tasks : some_twice n.tasks ≡ false
   pub tokens : some_twice n.tokens ≡ false
 
-row_named : (n : Names) → AreOnce n → (r : Row) → has_row_ids n r ≡ true → HasRowSets r → wide_row_in n (named_row n r) ≡ Ok r
-unfolding row_in wide_row_in
+row_named : (n : Names) → AreOnce n → (r : Row) → has_row_ids n r ≡ true → HasRowSets r → row_in n (named_row n r) ≡ Ok r
+unfolding plain_row_in row_in
 row_named n once r h sets =
     let more = and_second (list_all (is_id n.tokens) r.asked) _ h in
     let tasks = and_second (list_all (is_id n.tokens) r.asks) _ more in
@@ -159,10 +160,10 @@ row_named n once r h sets =
       set_again 32 n.tokens once.tokens r.asks sets.0.1 (and_first (list_all (is_id n.tokens) r.asks) _ more),
     ) refl
 
-rows_named : (n : Names) → AreOnce n → (k : ℕ) (rows : List Row) → list_all (has_row_ids n) rows ≡ true → All HasRowSets rows → each_from (λ j r. wide_row_in n r) k (map (named_row n) rows) ≡ Ok rows
-rows_named n once k [] h sets = each_none (λ j r. wide_row_in n r) k
+rows_named : (n : Names) → AreOnce n → (k : ℕ) (rows : List Row) → list_all (has_row_ids n) rows ≡ true → All HasRowSets rows → each_from (λ j r. row_in n r) k (map (named_row n) rows) ≡ Ok rows
+rows_named n once k [] h sets = each_none (λ j r. row_in n r) k
 rows_named n once k (r ∷ rows) h sets =
-    each_one_more (λ j r. wide_row_in n r) k (named_row n r) (map (named_row n) rows) r rows (row_named n once r (and_first (has_row_ids n r) _ h) (All-head HasRowSets r rows sets))
+    each_one_more (λ j r. row_in n r) k (named_row n r) (map (named_row n) rows) r rows (row_named n once r (and_first (has_row_ids n r) _ h) (All-head HasRowSets r rows sets))
     (rows_named n once (k + 1) rows (and_second (has_row_ids n r) _ h) (All-tail HasRowSets r rows sets))
 
 tree_named : (n : Names) → AreOnce n → (t : Tree) → has_ids n t ≡ true → HasSets t → tree_in n (named n t) ≡ Ok t
@@ -185,22 +186,16 @@ reads_again : (reading writing : RuleSet) (n : Names) → AreOnce n → (t : Tre
 unfolding spelled_tree
 reads_again reading writing n once t fits h sets = rw (tree_again reading writing n t fits, tree_named n once t h sets) refl
 
--- what is written by the narrow rules, by either rules, and by the wide rules, by these
-abbrev IsSpelledPlainly : Names → Tree → Type 0
-IsSpelledPlainly n t = (rules : RuleSet) → spelled_tree rules n (tree_data Narrow n (as_wide_tree t)) ≡ Ok (as_wide_tree t)
+-- what is written by the rules spells the tree by them
+fits_by : (rules : RuleSet) (t : Tree) → (rules ≡ Narrow → IsPlain t) → Fits rules rules t
+fits_by Narrow t plain = plain_fits t (plain refl)
+fits_by Wide t plain = wide_fits t
 
-abbrev IsSpelledWidely : Names → Tree → Type 0
-IsSpelledWidely n t = spelled_tree Wide n (tree_data Wide n t) ≡ Ok t
+abbrev IsSpelled : RuleSet → Names → Tree → Type 0
+IsSpelled rules n t = spelled_tree rules n (tree_data rules n t) ≡ Ok t
 
-pub all_read_again : (n : Names) → AreOnce n → (trees : List Tree) → list_all (has_ids n) (map as_wide_tree trees) ≡ true → All HasSets (map as_wide_tree trees) → All (IsSpelledPlainly n) trees
-all_read_again n once [] h sets = All-nil (IsSpelledPlainly n)
-all_read_again n once (t ∷ trees) h sets =
-    All-cons (IsSpelledPlainly n) t trees
-    (λ rules. reads_again rules Narrow n once (as_wide_tree t) (plain_fits rules t) (and_first (has_ids n (as_wide_tree t)) _ h) (All-head HasSets (as_wide_tree t) (map as_wide_tree trees) sets))
-    (all_read_again n once trees (and_second (has_ids n (as_wide_tree t)) _ h) (All-tail HasSets (as_wide_tree t) (map as_wide_tree trees) sets))
-
-pub all_wide_read_again : (n : Names) → AreOnce n → (trees : List Tree) → list_all (has_ids n) trees ≡ true → All HasSets trees → All (IsSpelledWidely n) trees
-all_wide_read_again n once [] h sets = All-nil (IsSpelledWidely n)
-all_wide_read_again n once (t ∷ trees) h sets =
-    All-cons (IsSpelledWidely n) t trees (reads_again Wide Wide n once t (wide_fits t) (and_first (has_ids n t) _ h) (All-head HasSets t trees sets))
-    (all_wide_read_again n once trees (and_second (has_ids n t) _ h) (All-tail HasSets t trees sets))
+pub all_read_again : (rules : RuleSet) (n : Names) → AreOnce n → (trees : List Tree) → (rules ≡ Narrow → All IsPlain trees) → list_all (has_ids n) trees ≡ true → All HasSets trees → All (IsSpelled rules n) trees
+all_read_again rules n once [] plain h sets = All-nil (IsSpelled rules n)
+all_read_again rules n once (t ∷ trees) plain h sets =
+    All-cons (IsSpelled rules n) t trees (reads_again rules rules n once t (fits_by rules t (λ e. All-head IsPlain t trees (plain e))) (and_first (has_ids n t) _ h) (All-head HasSets t trees sets))
+    (all_read_again rules n once trees (λ e. All-tail IsPlain t trees (plain e)) (and_second (has_ids n t) _ h) (All-tail HasSets t trees sets))

@@ -95,25 +95,6 @@ tasks_collected names texts set ascends is = rw (is.named, set_is is.numbers set
 pub tokens_collected : (names texts : List (List ℕ)) (set : TokenSet) → Collects names texts (has_token set) → set_in 32 names texts ≡ Ok (tokens_in set)
 tokens_collected names texts set is = rw (is.named, tokens_are is.numbers set is.members) refl
 
--- ---- rows
-
-no_tokens_named : (names : List (List ℕ)) → set_in 32 names [] ≡ Ok []
-no_tokens_named names = rw (each_empty (λ n text. ok_or (number_of names text) Unknown) 1) refl
-
-pub bare_row : (n : Names) (s : NamedRow) (r : PlainRow) → IsPlainRow s → row_in n s ≡ Ok r → wide_row_in n s ≡ Ok (bare r)
-unfolding wide_row_in
-bare_row n s r plain e = rw (e, plain.0, plain.1, no_tokens_named n.tokens) refl
-
-pub bare_fails : (n : Names) (s : NamedRow) (e : Miss TreeFault) → Fails e (row_in n s) → Fails e (wide_row_in n s)
-unfolding wide_row_in
-bare_fails n s (miss.Wrong fault) h = rw h refl
-bare_fails n s miss.Memory h = tt
-
 -- the empty set has no token
 pub none_has : (k : ℕ) → has_token no_tokens k ≡ false
 none_has k = rw (bit_at-zero k) refl
-
--- the rows of a plain leaf, as they lie in memory
-pub rows_plain : {X : Type 0} (g : X → NamedRow) (xs : List X) → All IsPlainRow (map g xs) → All (λ x. IsPlainRow (g x)) xs
-rows_plain g [] all = All-nil (λ x. IsPlainRow (g x))
-rows_plain g (x ∷ xs) all = All-cons (λ x. IsPlainRow (g x)) x xs (All-head IsPlainRow (g x) (map g xs) all) (rows_plain g xs (All-tail IsPlainRow (g x) (map g xs) all))

@@ -12,7 +12,8 @@ use Rattle.tpl_model.specs.Members.{mem}
 use Rattle.tpl_model.specs.TaskSet.{IsSubset}
 use Rattle.tpl_model.specs.Finals.{has, is_final}
 use Rattle.tpl_model.specs.Graph.{some_in}
-use Rattle.tpl_model.specs.Certificate.{PlainRow, row, one_ends}
+use Rattle.tpl_model.specs.Certificate.{PlainRow, Row, plain, row, one_ends}
+use Rattle.tpl_model.specs.WiderRules.{wide_row}
 use Rattle.tpl_draft.specs.Ids.{task_number}
 use Rattle.tpl_laws.specs.RowTests.{all_in, implies, each_end, some_end}
 use Rattle.tpl_graph.specs.Roles.{AreTasks}
@@ -135,3 +136,9 @@ module _ (tasks : List TaskId) (i : ℕ) (d : TaskId) (lt : i < length tasks) wh
   all_more p b =
       and_assoc b (p (slice_index_or tasks i d).0) (all_in p (map task_number (drop (i + 1) tasks)))
       ∙ ap (λ (ts : List TaskId). b && all_in p (map task_number ts)) (sym (drop_more tasks i d lt))
+
+-- the plain row of a task
+pub plain_row : (rows : List Row) (t : ℕ) → (wide_row rows t).row ≡ row (plain rows) t
+plain_row [] t = refl
+plain_row (r ∷ rows) zero = refl
+plain_row (r ∷ rows) (suc t) = plain_row rows t

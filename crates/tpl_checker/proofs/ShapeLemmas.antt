@@ -4,7 +4,7 @@ use Rattle.std.proofs.lemmas.Bool.{cases_lt}
 use Rattle.std.proofs.lemmas.List.{drop_more, length-drop}
 use Rattle.tpl_model.specs.Graph.{TaskGraph}
 use Rattle.tpl_model.specs.Claims.{Claim}
-use Rattle.tpl_model.specs.Certificate.{Tree, SplitInput, SplitEnd, Leaf}
+use Rattle.tpl_model.specs.Certificate.{Tree, OnInput, OnEnd, OnWinner, RowsLeaf, LeastLeaf}
 use Rattle.tpl_model.specs.declared.fault.CertFault.{CertFault}
 use Rattle.tpl_model.specs.declared.fault.CertFault.TheVariants.{Shape}
 use Rattle.tpl_model.specs.declared.claim.Property.TheVariants.{Never}
@@ -72,11 +72,14 @@ one_leaf zero = omega arith
 one_leaf (suc n) = omega (arith, one_leaf n)
 
 leaves_within : (n : ℕ) (t : Tree) → height t ≤ n → leaves t ≤ most_leaves n
-leaves_within n (Leaf rows) le = one_leaf n
-leaves_within zero (SplitInput i a b) le = absurd (omega arith)
-leaves_within zero (SplitEnd t a b c) le = absurd (omega arith)
-leaves_within (suc n) (SplitInput i a b) le = omega (arith, leaves_within n a (omega arith), leaves_within n b (omega arith))
-leaves_within (suc n) (SplitEnd t a b c) le = omega (arith, leaves_within n a (omega arith), leaves_within n b (omega arith), leaves_within n c (omega arith))
+leaves_within n (RowsLeaf rows) le = one_leaf n
+leaves_within n LeastLeaf le = one_leaf n
+leaves_within zero (OnInput i a b) le = absurd (omega arith)
+leaves_within zero (OnEnd t a b c) le = absurd (omega arith)
+leaves_within zero (OnWinner m x a b) le = absurd (omega arith)
+leaves_within (suc n) (OnWinner m x a b) le = omega (arith, leaves_within n a (omega arith), leaves_within n b (omega arith))
+leaves_within (suc n) (OnInput i a b) le = omega (arith, leaves_within n a (omega arith), leaves_within n b (omega arith))
+leaves_within (suc n) (OnEnd t a b c) le = omega (arith, leaves_within n a (omega arith), leaves_within n b (omega arith), leaves_within n c (omega arith))
 
 pub at_most_729_leaves : (t : Tree) → height t ≤ 6 → leaves t ≤ 729
 at_most_729_leaves t le = leaves_within 6 t le

@@ -5,7 +5,7 @@ ghost use Rattle.tpl_checker.specs.Prelude.{AreBodies, assumed_of};
 ghost use Rattle.tpl_draft.specs.Prelude.{task_number};
 ghost use Rattle.tpl_graph.specs.Prelude.{AreTasks};
 ghost use Rattle.tpl_laws.specs.Prelude.{all_may_end, body_may_end, ends, implies, may_be_canceled, may_end_as};
-ghost use Rattle.tpl_model.specs.Prelude.{Assumed, Child, Continues, Root, TaskGraph, WhenAny, attached, body, end_left, has, is_final, is_task, kind, mem, reaches, row, some_in, view};
+ghost use Rattle.tpl_model.specs.Prelude.{Assumed, Child, Continues, Root, TaskGraph, WhenAny, attached, body, end_left, has, is_final, is_task, kind, mem, plain, reaches, row, some_in, view};
 ghost use Rattle.tpl_model.specs.declared.finals.Final.TheVariants as finals;
 
 use crate::all_ends::AllEnds;
@@ -15,20 +15,20 @@ use crate::rows::{excluded, implies, row, some_end};
 use crate::view::{NO_END, ends_of_one};
 use tpl_graph::{Graph, Role};
 use tpl_model::{Final, Finals, TaskId, TaskSet};
-use tpl_trees::PlainRow;
+use tpl_trees::Row;
 
 /// Each way in which the task may end stands in its row, but for those that the leaf leaves out.
 pub(crate) fn ends(
     graph: &Graph,
     assumed: &Assumptions,
-    rows: &[PlainRow],
+    rows: &[Row],
     bodies: &Bodies,
     task: TaskId,
 ) -> bool
     requires task { is_task graph.now.graph task.0 }
-    requires rows { length rows.now ≡ length graph.now.graph.tasks }
-    ensures { AreBodies graph.now.graph (assumed_of assumed.now) rows.now bodies.now
-        → result ≡ ends graph.now.graph (assumed_of assumed.now) rows.now task.0 }
+    requires rows { length (plain rows.now) ≡ length graph.now.graph.tasks }
+    ensures { AreBodies graph.now.graph (assumed_of assumed.now) (plain rows.now) bodies.now
+        → result ≡ ends graph.now.graph (assumed_of assumed.now) (plain rows.now) task.0 }
 {
     let found = may_end(graph, assumed, rows, bodies, task);
     let listed = row(rows, task).ends();
@@ -58,14 +58,14 @@ fn is_listed(
 fn may_end(
     graph: &Graph,
     assumed: &Assumptions,
-    rows: &[PlainRow],
+    rows: &[Row],
     bodies: &Bodies,
     task: TaskId,
 ) -> Finals
     requires task { is_task graph.now.graph task.0 }
-    requires rows { length rows.now ≡ length graph.now.graph.tasks }
-    ensures { AreBodies graph.now.graph (assumed_of assumed.now) rows.now bodies.now
-        → (f : Final) → has result f ≡ may_end_as graph.now.graph (assumed_of assumed.now) rows.now
+    requires rows { length (plain rows.now) ≡ length graph.now.graph.tasks }
+    ensures { AreBodies graph.now.graph (assumed_of assumed.now) (plain rows.now) bodies.now
+        → (f : Final) → has result f ≡ may_end_as graph.now.graph (assumed_of assumed.now) (plain rows.now)
         task.0 (kind graph.now.graph task.0) f }
 {
     match graph.role(task) {
@@ -81,17 +81,17 @@ fn may_end(
 fn ready_ends(
     graph: &Graph,
     assumed: &Assumptions,
-    rows: &[PlainRow],
+    rows: &[Row],
     bodies: &Bodies,
     task: TaskId,
 ) -> Finals
     requires task { is_task graph.now.graph task.0 }
-    requires rows { length rows.now ≡ length graph.now.graph.tasks }
-    ensures root { AreBodies graph.now.graph (assumed_of assumed.now) rows.now bodies.now
-        → (f : Final) → has result f ≡ may_end_as graph.now.graph (assumed_of assumed.now) rows.now
+    requires rows { length (plain rows.now) ≡ length graph.now.graph.tasks }
+    ensures root { AreBodies graph.now.graph (assumed_of assumed.now) (plain rows.now) bodies.now
+        → (f : Final) → has result f ≡ may_end_as graph.now.graph (assumed_of assumed.now) (plain rows.now)
         task.0 Root f }
-    ensures child { AreBodies graph.now.graph (assumed_of assumed.now) rows.now bodies.now
-        → (f : Final) → has result f ≡ may_end_as graph.now.graph (assumed_of assumed.now) rows.now
+    ensures child { AreBodies graph.now.graph (assumed_of assumed.now) (plain rows.now) bodies.now
+        → (f : Final) → has result f ≡ may_end_as graph.now.graph (assumed_of assumed.now) (plain rows.now)
         task.0 Child f }
 {
     let ends = body_ends(graph, rows, bodies, task);
@@ -104,16 +104,16 @@ fn ready_ends(
 fn continued_ends(
     graph: &Graph,
     assumed: &Assumptions,
-    rows: &[PlainRow],
+    rows: &[Row],
     bodies: &Bodies,
     task: TaskId,
     antecedent: TaskId,
 ) -> Finals
     requires task { is_task graph.now.graph task.0 }
     requires antecedent { is_task graph.now.graph antecedent.0 }
-    requires rows { length rows.now ≡ length graph.now.graph.tasks }
-    ensures { AreBodies graph.now.graph (assumed_of assumed.now) rows.now bodies.now
-        → (f : Final) → has result f ≡ may_end_as graph.now.graph (assumed_of assumed.now) rows.now
+    requires rows { length (plain rows.now) ≡ length graph.now.graph.tasks }
+    ensures { AreBodies graph.now.graph (assumed_of assumed.now) (plain rows.now) bodies.now
+        → (f : Final) → has result f ≡ may_end_as graph.now.graph (assumed_of assumed.now) (plain rows.now)
         task.0 (Continues antecedent.0) f }
 {
     let ends = body_ends(graph, rows, bodies, task);
@@ -139,14 +139,14 @@ fn with_canceled(ends: Finals, canceled: bool) -> Finals
 fn may_be_canceled(
     graph: &Graph,
     assumed: &Assumptions,
-    rows: &[PlainRow],
+    rows: &[Row],
     task: TaskId,
     antecedent: TaskId,
 ) -> bool
     requires task { is_task graph.now.graph task.0 }
     requires antecedent { is_task graph.now.graph antecedent.0 }
-    requires rows { length rows.now ≡ length graph.now.graph.tasks }
-    ensures { result ≡ may_be_canceled graph.now.graph (assumed_of assumed.now) rows.now task.0
+    requires rows { length (plain rows.now) ≡ length graph.now.graph.tasks }
+    ensures { result ≡ may_be_canceled graph.now.graph (assumed_of assumed.now) (plain rows.now) task.0
         antecedent.0 }
 {
     let options = graph.options(task);
@@ -164,12 +164,12 @@ fn canceled_by_token(loud: bool, lazy: bool, may_be_final: bool) -> bool
 }
 
 /// How the body of a task whose row runs may end it.
-fn body_ends(graph: &Graph, rows: &[PlainRow], bodies: &Bodies, task: TaskId) -> Finals
+fn body_ends(graph: &Graph, rows: &[Row], bodies: &Bodies, task: TaskId) -> Finals
     requires task { is_task graph.now.graph task.0 }
-    requires rows { length rows.now ≡ length graph.now.graph.tasks }
-    ensures { (l : Assumed) → AreBodies graph.now.graph l rows.now bodies.now
-        → (f : Final) → has result f ≡ ((row rows.now task.0).runs
-        && body_may_end graph.now.graph l rows.now task.0 f) }
+    requires rows { length (plain rows.now) ≡ length graph.now.graph.tasks }
+    ensures { (l : Assumed) → AreBodies graph.now.graph l (plain rows.now) bodies.now
+        → (f : Final) → has result f ≡ ((row (plain rows.now) task.0).runs
+        && body_may_end graph.now.graph l (plain rows.now) task.0 f) }
 {
     if !row(rows, task).runs() {
         return NO_END;
@@ -184,12 +184,12 @@ fn body_ends(graph: &Graph, rows: &[PlainRow], bodies: &Bodies, task: TaskId) ->
 }
 
 /// An attached child may be started and end Faulted: its parent takes over its exceptions.
-fn child_may_fault(graph: &Graph, rows: &[PlainRow], bodies: &Bodies, task: TaskId) -> bool
+fn child_may_fault(graph: &Graph, rows: &[Row], bodies: &Bodies, task: TaskId) -> bool
     requires task { is_task graph.now.graph task.0 }
-    requires rows { length rows.now ≡ length graph.now.graph.tasks }
-    ensures { (l : Assumed) → AreBodies graph.now.graph l rows.now bodies.now
-        → result ≡ some_in (λ c. reaches c (view graph.now.graph l rows.now task.0)
-        (body graph.now.graph task.0) && has (row rows.now c).ends finals.Faulted)
+    requires rows { length (plain rows.now) ≡ length graph.now.graph.tasks }
+    ensures { (l : Assumed) → AreBodies graph.now.graph l (plain rows.now) bodies.now
+        → result ≡ some_in (λ c. reaches c (view graph.now.graph l (plain rows.now) task.0)
+        (body graph.now.graph task.0) && has (row (plain rows.now) c).ends finals.Faulted)
         (attached graph.now.graph task.0) }
 {
     graph.valid_law();
@@ -197,9 +197,9 @@ fn child_may_fault(graph: &Graph, rows: &[PlainRow], bodies: &Bodies, task: Task
 }
 
 /// One of the tasks is in the set and may end Faulted.
-fn some_faults(rows: &[PlainRow], started: &TaskSet, tasks: &[TaskId]) -> bool
-    requires { AreTasks (length rows.now) tasks.now }
-    ensures { result ≡ some_in (λ c. mem c started.now && has (row rows.now c).ends finals.Faulted)
+fn some_faults(rows: &[Row], started: &TaskSet, tasks: &[TaskId]) -> bool
+    requires { AreTasks (length (plain rows.now)) tasks.now }
+    ensures { result ≡ some_in (λ c. mem c started.now && has (row (plain rows.now) c).ends finals.Faulted)
         (map task_number tasks.now) }
 {
     for task in tasks {
@@ -212,9 +212,9 @@ fn some_faults(rows: &[PlainRow], started: &TaskSet, tasks: &[TaskId]) -> bool
 
 /// How a WhenAll task may end: Faulted if one argument is, else Canceled if one is, else
 /// RanToCompletion.
-fn all_end(rows: &[PlainRow], args: &[TaskId]) -> Finals
-    requires { AreTasks (length rows.now) args.now }
-    ensures { (f : Final) → has result f ≡ all_may_end rows.now (map task_number args.now) f }
+fn all_end(rows: &[Row], args: &[TaskId]) -> Finals
+    requires { AreTasks (length (plain rows.now)) args.now }
+    ensures { (f : Final) → has result f ≡ all_may_end (plain rows.now) (map task_number args.now) f }
 {
     let mut found = AllEnds::none();
     for arg in args {
@@ -224,10 +224,10 @@ fn all_end(rows: &[PlainRow], args: &[TaskId]) -> Finals
 }
 
 /// A WhenAny task ends RanToCompletion, once one argument has ended.
-fn any_ends(rows: &[PlainRow], args: &[TaskId]) -> Finals
-    requires { AreTasks (length rows.now) args.now }
+fn any_ends(rows: &[Row], args: &[TaskId]) -> Finals
+    requires { AreTasks (length (plain rows.now)) args.now }
     ensures { (g : TaskGraph) (l : Assumed) (t : ℕ) (f : Final) → has result f
-        ≡ may_end_as g l rows.now t (WhenAny (map task_number args.now)) f }
+        ≡ may_end_as g l (plain rows.now) t (WhenAny (map task_number args.now)) f }
 {
     Finals {
         ran: some_end(ends_of_one(rows, args)),

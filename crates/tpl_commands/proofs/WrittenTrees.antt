@@ -1,6 +1,8 @@
 -- The ids of a certificate that is accepted.
-use Rattle.std.proofs.Common.{◌≡◌, ℕ, ◌<◌, List, [], ◌∷◌, length, map, true, inl, inr, refl, sym, subst, arith}
-use Rattle.std.specs.List.{list_all}
+use Rattle.std.proofs.Common.{◌≡◌, ℕ, ◌<◌, List, [], ◌∷◌, length, true, false, inl, inr, refl, sym, subst, arith}
+use Rattle.std.specs.List.{All, list_all}
+use Rattle.std.proofs.lemmas.List.Elements.{All-nil, All-cons}
+use Rattle.tpl_model.specs.declared.finals.Final.TheVariants.{RanToCompletion, Canceled, Faulted}
 use Rattle.std.proofs.lemmas.Bool.{cases_lt, lt-ltb}
 use Rattle.tpl_model.specs.Members.{mem}
 use Rattle.tpl_model.specs.Graph.{TaskGraph, TaskKind, Root, Child, Continues, WhenAll, WhenAny, kind, is_task, is_token}
@@ -10,7 +12,7 @@ use Rattle.tpl_model.specs.declared.ids.TaskId.{TaskId}
 use Rattle.tpl_model.specs.declared.claim.Property.{Property}
 use Rattle.tpl_model.specs.declared.rule_set.RuleSet.{RuleSet}
 use Rattle.tpl_model.specs.declared.rule_set.RuleSet.TheVariants.{Narrow, Wide}
-use Rattle.tpl_model.specs.Certificate.{AllTasks, IdsOfRows, Row, plain, Tree, OnInput, OnEnd, OnWinner, RowsLeaf, LeastLeaf}
+use Rattle.tpl_model.specs.Certificate.{AllTasks, IdsOfRows, IsPlain, Assumed, with_input, with_end, assumed_for, AcceptsTree, Accepts, Row, plain, Tree, OnInput, OnEnd, OnWinner, RowsLeaf, LeastLeaf}
 use Rattle.tpl_model.specs.WiderRules.{WideAssumed, AllTokens, TokensOfRows, MayHaveWinner, widely_assumed}
 use Rattle.tpl_model.proofs.MemberLemmas.{mem_split}
 use Rattle.tpl_model.proofs.Truths.{true_false}
@@ -87,7 +89,24 @@ module _ (n : Names) (g : TaskGraph) (valid : IsGraph g) (tasks : length n.tasks
 
 -- what the narrow rules accept, the wide ones do
 pub trees_known : TokensAcceptMore → (m : Named) → IsNamedGraph m → (rules : RuleSet) (claims : List Claim) (trees : List Tree) → AcceptsBy rules m.graph claims trees → list_all (has_ids m.names) trees ≡ true
-trees_known more m law Narrow claims trees accepted =
-    subst (λ (ts : List Tree). list_all (has_ids m.names) ts ≡ true) (sym accepted.1)
-    (wide_known m.names m.graph law.graph law.tasks law.tokens law.inputs claims (map as_wide_tree accepted.0) (more m.graph claims accepted.0 accepted.2))
+trees_known more m law Narrow claims trees accepted = wide_known m.names m.graph law.graph law.tasks law.tokens law.inputs claims trees (more m.graph claims trees accepted)
 trees_known more m law Wide claims trees accepted = wide_known m.names m.graph law.graph law.tasks law.tokens law.inputs claims trees accepted
+
+-- what the narrow rules accept is plain
+tree_plain : (g : TaskGraph) (p : Property TaskId) (l : Assumed) (t : Tree) → AcceptsTree g p l t → IsPlain t
+tree_plain g p l (OnInput i a b) accepted = (tree_plain g p (with_input l i true) a accepted.1, tree_plain g p (with_input l i false) b accepted.2)
+tree_plain g p l (OnEnd t a b c) accepted =
+    (tree_plain g p (with_end l t RanToCompletion) a accepted.1, tree_plain g p (with_end l t Canceled) b accepted.2, tree_plain g p (with_end l t Faulted) c accepted.3)
+tree_plain g p l (OnWinner n x a b) accepted = absurd accepted
+tree_plain g p l (RowsLeaf rows) accepted = accepted.4
+tree_plain g p l LeastLeaf accepted = absurd accepted
+
+all_plain : (g : TaskGraph) (claims : List Claim) (trees : List Tree) → Accepts g claims trees → All IsPlain trees
+all_plain g [] [] accepted = All-nil IsPlain
+all_plain g [] (t ∷ trees) accepted = absurd accepted
+all_plain g (claim ∷ claims) [] accepted = absurd accepted
+all_plain g (claim ∷ claims) (t ∷ trees) accepted = All-cons IsPlain t trees (tree_plain g claim.body (assumed_for Narrow g claim) t accepted.0) (all_plain g claims trees accepted.1)
+
+pub plain_where_narrow : (rules : RuleSet) (g : TaskGraph) (claims : List Claim) (trees : List Tree) → AcceptsBy rules g claims trees → rules ≡ Narrow → All IsPlain trees
+plain_where_narrow Narrow g claims trees accepted e = all_plain g claims trees accepted
+plain_where_narrow Wide g claims trees accepted e = absurd cc

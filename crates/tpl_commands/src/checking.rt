@@ -27,24 +27,23 @@ pub fn check_document(
     ensures { IfOk result (IsCheckOf (doc_of document.now)) }
 {
     match rules_of(document) {
-        RuleSet::Narrow => Ok(check_plain(document)),
-        RuleSet::Wide => check_with_tokens(alloc, document),
+        RuleSet::Narrow => Ok(check_narrowly(document)),
+        RuleSet::Wide => check_widely(alloc, document),
     }
 }
 
-/// The same of a document whose trees say nothing of tokens and of winners.
-fn check_plain(document: &Document) -> Result<(), CertFault>
+/// The same by the narrow rules.
+fn check_narrowly(document: &Document) -> Result<(), CertFault>
     requires claims { All (Fits document.now.graph.graph) document.now.claims.items }
     requires rules { rules_of (doc_of document.now) ≡ Narrow }
     ensures { IsCheckOf (doc_of document.now) result }
 {
-    tpl_laws::plain_is_refused();
     let (graph, claims) = (&document.graph, &document.claims);
     check(graph, claims, &document.certificate)
 }
 
-/// The same of a document whose trees may speak of them.
-fn check_with_tokens(
+/// The same by the wide rules.
+fn check_widely(
     alloc: Global,
     document: &Document,
 ) -> Result<Result<(), CertFault>, AllocError>
@@ -53,10 +52,10 @@ fn check_with_tokens(
     ensures { IfOk result (IsCheckOf (doc_of document.now)) }
 {
     document.graph.valid_law();
-    document.wide.limits_law();
+    document.certificate.limits_law();
     tpl_laws::wide_fault_is_first();
     let (graph, claims) = (&document.graph, &document.claims);
-    match check_wide(alloc, graph, claims, document.wide.trees()) {
+    match check_wide(alloc, graph, claims, document.certificate.trees()) {
         Ok(()) => Ok(Ok(())),
         Err(WideFault::Fails(fault)) => Ok(Err(fault)),
         Err(WideFault::Memory) => Err(AllocError),

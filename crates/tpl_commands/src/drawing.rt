@@ -69,7 +69,7 @@ fn shown_endings(
     match verdict {
         Ok(()) => match rules_of(document) {
             RuleSet::Narrow => endings(alloc, document.certificate.trees(), graph.len()),
-            RuleSet::Wide => wide_endings(alloc, graph, claims, document.wide.trees()),
+            RuleSet::Wide => wide_endings(alloc, graph, claims, document.certificate.trees()),
         },
         Err(_) => Ok(Vec::new(alloc)),
     }

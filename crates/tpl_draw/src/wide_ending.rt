@@ -9,7 +9,7 @@ ghost use Rattle.tpl_leaf.specs.Prelude.{AreLinks, wide_assumed};
 ghost use Rattle.tpl_model.specs.Prelude.{plain, row};
 ghost use Rattle.tpl_wide.specs.Prelude.{IsCheck, graph_in};
 
-use crate::ending::{either, endings, no_ends};
+use crate::ending::{either, endings, leaf_ends};
 use std::alloc::{AllocError, Global};
 use tpl_checker::{Assumptions, Below, assumed_for};
 use tpl_graph::{Claim, Graph};
@@ -17,17 +17,6 @@ use tpl_model::{Final, Finals, RuleSet};
 use tpl_paths::TokenSet;
 use tpl_trees::{Node, Row, Tree};
 use tpl_wide::{Check, WinnerSplit, links, rows_left_out, with_split};
-
-/// How a task may end by its row; in no way past the last row.
-fn leaf_ends(rows: &[Row], task: usize) -> Finals
-    ensures { result ≡ (row (plain rows.now) task).ends }
-{
-    if task < rows.len() {
-        rows[task].row().ends()
-    } else {
-        no_ends()
-    }
-}
 
 /// How each task may end by the rows of a leaf, or in these other ways.
 fn ends_in_rows(

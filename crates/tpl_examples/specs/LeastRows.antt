@@ -17,7 +17,7 @@ use Rattle.tpl_laws.specs.LeastRows.{least_rows}
 use Rattle.tpl_laws.specs.WideTrees.{WidelyAccepts}
 use Rattle.tpl_laws.specs.WideVerdict.{wide_verdict}
 use Rattle.tpl_examples.specs.Words.{root, child, continues, when_all, with_token, with_options, graph, with_tokens, with_inputs, returns, only_on_faulted, only_on_ran_to_completion, ran, canceled, faulted, ends_in, begins_after, is_observed, exclude}
-use Rattle.tpl_examples.specs.CertificateWords.{nothing, ran_or_canceled, ran_or_faulted, runs, behind, ends, not_run, one_claim, throws, observes}
+use Rattle.tpl_examples.specs.CertificateWords.{bare_rows, nothing, ran_or_canceled, ran_or_faulted, runs, behind, ends, not_run, one_claim, throws, observes}
 use Rattle.tpl_examples.specs.TokenRules.{for_claim, fault, plainly, knowing, two_tokens}
 use Rattle.tpl_examples.specs.WinnerRules.{races, read_behind}
 
@@ -122,7 +122,7 @@ RowsOfFamilies =
 abbrev pub TokensAreKnown : Type 0
 TokensAreKnown =
     (judged (family always 0) (ends_in 1 canceled) LeastLeaf ≡ Ok tt)
-    × (fault (family always 0) [] (ends_in 1 canceled) (as_wide (plain (rows_of (family always 0) (ends_in 1 canceled)))) ≡ Some (Breaks 1 K1))
+    × (fault (family always 0) [] (ends_in 1 canceled) (bare_rows (plain (rows_of (family always 0) (ends_in 1 canceled)))) ≡ Some (Breaks 1 K1))
     × (judged (family sometimes 0) (ends_in 1 canceled) LeastLeaf ≡ Err (ClaimNot 1 1))
     × (judged (family sometimes 0) (ends_in 1 canceled) (OnInput 0 LeastLeaf LeastLeaf) ≡ Err (ClaimNot 1 2))
     × (judged (family sometimes 0) (ends_in 1 canceled) (OnInput 1 LeastLeaf LeastLeaf) ≡ Err (Shape 1))

@@ -9,10 +9,10 @@ use Rattle.tpl_model.specs.declared.fault.CertFault.{CertFault}
 use Rattle.tpl_model.specs.declared.fault.CertFault.TheVariants.{Shape, ClaimNot}
 use Rattle.tpl_model.specs.declared.claim.Given.{Given}
 use Rattle.tpl_model.specs.Claims.{Claim}
-use Rattle.tpl_model.specs.Certificate.{PlainRow, Tree, SplitInput, SplitEnd, Leaf}
+use Rattle.tpl_model.specs.Certificate.{PlainRow, Tree, OnInput, OnEnd}
 use Rattle.tpl_laws.specs.Verdict.{verdict}
 use Rattle.tpl_examples.specs.Words.{root, when_all, when_any, with_token, ran, canceled, faulted, ends_in, begins_after, never_begins, is_observed, exclude, given_input, given_quiet, returns}
-use Rattle.tpl_examples.specs.CertificateWords.{child_with, continuing, graph_with, nothing, ran_or_canceled, ran_or_faulted, any_end, runs, ends, behind, not_run, one_claim, one_claim_given, not_closed, leaf, throws, observes, stuck}
+use Rattle.tpl_examples.specs.CertificateWords.{child_with, continuing, graph_with, nothing, ran_or_canceled, ran_or_faulted, any_end, runs, ends, behind, not_run, one_claim, one_claim_given, not_closed, leaf, throws, observes, stuck, one_leaf}
 
 -- a claim that each leaf proves, for certificates about the rules alone
 abbrev pub true_claim : List Claim
@@ -188,8 +188,8 @@ PastContinuation =
 -- an eager continuation keeps its antecedent past it on the branches on which it isn't canceled
 abbrev pub PastWhereNotCanceled : Type 0
 PastWhereNotCanceled =
-    (verdict (canceled_before 0) true_claim (SplitEnd 1 (Leaf (ends ran ∷ ran_past (0 ∷ []) ∷ [])) (Leaf (ends ran ∷ ends canceled ∷ [])) (Leaf (ends ran ∷ ends nothing ∷ [])) ∷ []) ≡ Ok tt)
-    × (verdict (canceled_before 0) true_claim (SplitEnd 1 (Leaf (ends ran ∷ ends ran ∷ [])) (Leaf (ends ran ∷ runs canceled [] (0 ∷ []) [] ∷ [])) (Leaf (ends ran ∷ ends nothing ∷ [])) ∷ []) ≡ Err (not_closed 1 2 1 K4))
+    (verdict (canceled_before 0) true_claim (OnEnd 1 (one_leaf (ends ran ∷ ran_past (0 ∷ []) ∷ [])) (one_leaf (ends ran ∷ ends canceled ∷ [])) (one_leaf (ends ran ∷ ends nothing ∷ [])) ∷ []) ≡ Ok tt)
+    × (verdict (canceled_before 0) true_claim (OnEnd 1 (one_leaf (ends ran ∷ ends ran ∷ [])) (one_leaf (ends ran ∷ runs canceled [] (0 ∷ []) [] ∷ [])) (one_leaf (ends ran ∷ ends nothing ∷ [])) ∷ []) ≡ Err (not_closed 1 2 1 K4))
 
 -- past WhenAll is what is past some task of its list, past WhenAny only what is past each
 abbrev pub two_after_one : (List ℕ → Task) → TaskGraph
@@ -277,7 +277,7 @@ abbrev pub one : TaskGraph
 one = plain (root returns ∷ [])
 
 abbrev pub right_leaf : Tree
-right_leaf = Leaf (ends ran ∷ [])
+right_leaf = one_leaf (ends ran ∷ [])
 
 abbrev pub Shapes : Type 0
 Shapes =
@@ -286,8 +286,8 @@ Shapes =
     × (said one (runs ran [] [] (1 ∷ []) ∷ []) ≡ Err (Shape 1))
     × (said one [] ≡ Err (Shape 1))
     × (said one (ends ran ∷ ends ran ∷ []) ≡ Err (Shape 1))
-    × (verdict one true_claim (SplitInput 0 right_leaf right_leaf ∷ []) ≡ Err (Shape 1))
-    × (verdict one true_claim (SplitEnd 1 right_leaf right_leaf right_leaf ∷ []) ≡ Err (Shape 1))
+    × (verdict one true_claim (OnInput 0 right_leaf right_leaf ∷ []) ≡ Err (Shape 1))
+    × (verdict one true_claim (OnEnd 1 right_leaf right_leaf right_leaf ∷ []) ≡ Err (Shape 1))
     × (verdict one true_claim (right_leaf ∷ right_leaf ∷ []) ≡ Err (Shape 2))
     × (verdict one (record { given = []; body = ends_in 0 faulted } ∷ record { given = []; body = ends_in 0 ran } ∷ []) (right_leaf ∷ []) ≡ Err (Shape 2))
     × (verdict one (record { given = []; body = ends_in 0 ran } ∷ record { given = []; body = ends_in 0 faulted } ∷ []) (right_leaf ∷ right_leaf ∷ []) ≡ Err (ClaimNot 2 1))
@@ -301,10 +301,10 @@ job = plain (root (Work 0 true ⨾ Nothing) ∷ [])
 
 abbrev pub Assumptions : Type 0
 Assumptions =
-    (verdict by_input (true_given (given_input 0 true ∷ [])) (SplitInput 0 (Leaf (ends ran ∷ [])) (Leaf (ends nothing ∷ [])) ∷ []) ≡ Ok tt)
-    × (verdict by_input (true_given (given_input 0 false ∷ [])) (SplitInput 0 (Leaf (ends ran ∷ [])) (Leaf (ends nothing ∷ [])) ∷ []) ≡ Err (not_closed 1 2 0 K2))
-    × (verdict job true_claim (SplitEnd 0 (SplitEnd 0 (Leaf (ends ran ∷ [])) (Leaf (ends nothing ∷ [])) (Leaf (ends nothing ∷ []))) (Leaf (ends nothing ∷ [])) (Leaf (ends faulted ∷ [])) ∷ []) ≡ Ok tt)
-    × (verdict job true_claim (SplitEnd 0 (Leaf (ends nothing ∷ [])) (Leaf (ends nothing ∷ [])) (Leaf (ends faulted ∷ [])) ∷ []) ≡ Err (not_closed 1 1 0 K2))
+    (verdict by_input (true_given (given_input 0 true ∷ [])) (OnInput 0 (one_leaf (ends ran ∷ [])) (one_leaf (ends nothing ∷ [])) ∷ []) ≡ Ok tt)
+    × (verdict by_input (true_given (given_input 0 false ∷ [])) (OnInput 0 (one_leaf (ends ran ∷ [])) (one_leaf (ends nothing ∷ [])) ∷ []) ≡ Err (not_closed 1 2 0 K2))
+    × (verdict job true_claim (OnEnd 0 (OnEnd 0 (one_leaf (ends ran ∷ [])) (one_leaf (ends nothing ∷ [])) (one_leaf (ends nothing ∷ []))) (one_leaf (ends nothing ∷ [])) (one_leaf (ends faulted ∷ [])) ∷ []) ≡ Ok tt)
+    × (verdict job true_claim (OnEnd 0 (one_leaf (ends nothing ∷ [])) (one_leaf (ends nothing ∷ [])) (one_leaf (ends faulted ∷ [])) ∷ []) ≡ Err (not_closed 1 1 0 K2))
 
 -- how the subject of a continuation may have ended: as its antecedent may and the options allow; behind WhenAny as any
 -- of its tasks may

@@ -1,6 +1,6 @@
 -- Worked certificates for what version 3 adds: a case of each rule that is accepted, and ones that aren't.
 use Rattle.tpl_laws.specs.WideVerdict.{wide_verdict}
-use Rattle.std.specs.Prelude.{◌≡◌, ℕ, true, false, Ok, Err, Result, List, [], ◌∷◌, map}
+use Rattle.std.specs.Prelude.{◌≡◌, ℕ, true, false, Ok, Err, Result, List, [], ◌∷◌}
 use Rattle.tpl_model.specs.declared.finals.Final.TheVariants.{Canceled}
 use Rattle.tpl_model.specs.declared.finals.Finals.{Finals}
 use Rattle.tpl_model.specs.Statements.{Start, Work, Nothing, ◌⨾◌}
@@ -19,7 +19,7 @@ use Rattle.tpl_examples.specs.CertificateWords.{child_with, continuing, graph_wi
 
 -- the verdict on one claim by the wide rules, and by the narrow ones
 abbrev pub widely : TaskGraph → List Given → Property TaskId → List PlainRow → Result (Unit {0}) CertFault
-widely g facts says rows = wide_verdict g (one_claim_given facts says) (map as_wide_tree (leaf rows))
+widely g facts says rows = wide_verdict g (one_claim_given facts says) (leaf rows)
 
 abbrev pub narrowly : TaskGraph → List Given → Property TaskId → List PlainRow → Result (Unit {0}) CertFault
 narrowly g facts says rows = verdict g (one_claim_given facts says) (leaf rows)

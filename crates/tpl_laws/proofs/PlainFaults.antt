@@ -113,11 +113,11 @@ module _ (g : TaskGraph) (p : Property TaskId) where
   tree_is c l n LeastLeaf = one_leaf fault_of c n (record { assumes = l; rows = [] })
 
 -- rows say nothing of tokens
-none_decided : (xs : List ℕ) → Decides (is_none xs) (xs ≡ [])
+pub none_decided : (xs : List ℕ) → Decides (is_none xs) (xs ≡ [])
 none_decided [] = (λ e. refl, λ n. refl)
 none_decided (x ∷ xs) = (λ e. true_false (sym e), λ n. absurd (cc))
 
-plain_decided : (rows : List Row) → Decides (are_plain rows) (ArePlain rows)
+pub plain_decided : (rows : List Row) → Decides (are_plain rows) (ArePlain rows)
 plain_decided [] = (λ e. tt, λ u. refl)
 plain_decided (r ∷ rows) = (
   λ e. let q = (row_plain r rows (plain_decided rows)).0 e in (q.0.0, q.0.1, q.1),

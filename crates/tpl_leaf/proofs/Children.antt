@@ -4,8 +4,8 @@ use Rattle.tpl_model.proofs.Truths.{or_false}
 use Rattle.tpl_model.specs.Members.{mem}
 use Rattle.tpl_model.specs.Knowledge.{Fact, Knowledge, IsSettled, IsRequested}
 use Rattle.tpl_model.specs.Graph.{Child}
-use Rattle.tpl_model.specs.Certificate.{row}
-use Rattle.tpl_model.specs.WiderRules.{Way, known_at_start, may_run, own_among, plain}
+use Rattle.tpl_model.specs.Certificate.{row, plain}
+use Rattle.tpl_model.specs.WiderRules.{Way, known_at_start, may_run, own_among}
 use Rattle.tpl_laws.specs.RowTests.{by_parent, implies, parent_of}
 use Rattle.tpl_laws.specs.WiderTests.{if_known, known_there, settled_before}
 use Rattle.tpl_leaf.specs.declared.leaf.Leaf.{Leaf}

@@ -7,8 +7,8 @@ use Rattle.tpl_model.specs.declared.finals.Finals.{Finals}
 use Rattle.tpl_model.specs.Finals.{has, is_final}
 use Rattle.tpl_model.specs.Knowledge.{Fact}
 use Rattle.tpl_model.specs.Graph.{TaskKind, Root, Child, Continues, WhenAll, WhenAny, kind, some_in}
-use Rattle.tpl_model.specs.Certificate.{row, end_left, may_end}
-use Rattle.tpl_model.specs.WiderRules.{Way, plain, way_final}
+use Rattle.tpl_model.specs.Certificate.{row, end_left, may_end, plain}
+use Rattle.tpl_model.specs.WiderRules.{Way, way_final}
 use Rattle.tpl_laws.specs.RowTests.{all_may_end, each_end, implies}
 use Rattle.tpl_laws.specs.WiderTests.{each_way, wide_ends_by}
 use Rattle.tpl_leaf.specs.declared.leaf.Leaf.{Leaf}

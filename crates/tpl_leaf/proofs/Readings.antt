@@ -14,8 +14,8 @@ use Rattle.tpl_paths.specs.Reading.{end_of}
 use Rattle.tpl_paths.specs.Agreement.{TokensBelow, TokensWithin, AgreeBelow, AgreeingReadings}
 use Rattle.tpl_model.specs.Graph.{TaskGraph, attached, body, is_task}
 use Rattle.tpl_model.specs.Valid.{IdsOf, IdsWithin, IsGraph}
-use Rattle.tpl_model.specs.Certificate.{row}
-use Rattle.tpl_model.specs.WiderRules.{plain, ends_with, wide_view, reading, asked_of, known_at_end, known_at_start}
+use Rattle.tpl_model.specs.Certificate.{row, plain}
+use Rattle.tpl_model.specs.WiderRules.{ends_with, wide_view, reading, asked_of, known_at_end, known_at_start}
 use Rattle.tpl_laws.proofs.Settling.{child_task, attached_child}
 use Rattle.tpl_leaf.specs.declared.leaf.Leaf.{Leaf}
 use Rattle.tpl_leaf.specs.Leaf.{graph_of, assumed_in, rows_in, IsLeaf}

@@ -1,18 +1,11 @@
 -- Rows, and facts by their cases.
-use Rattle.std.proofs.Common.{◌≡◌, ℕ, zero, suc, ◌&&◌, Bool, true, List, [], ◌∷◌, refl, sym, ◌∙◌}
+use Rattle.std.proofs.Common.{◌≡◌, ℕ, ◌&&◌, Bool, true, List, sym, ◌∙◌}
 use Rattle.tpl_model.proofs.Truths.{same_tests, and_first, and_second}
 use Rattle.std.proofs.lemmas.Bool.{and_from}
 use Rattle.tpl_model.specs.Members.{mem}
 use Rattle.tpl_model.specs.Knowledge.{Fact, IsSettled, IsRequested}
-use Rattle.tpl_model.specs.Certificate.{row, Row, plain}
-use Rattle.tpl_model.specs.WiderRules.{wide_row}
 use Rattle.tpl_laws.specs.RowTests.{all_in}
 use Rattle.tpl_laws.proofs.Deciding.{of_all, itself}
-
-pub plain_row : (rows : List Row) (t : ℕ) → (wide_row rows t).row ≡ row (plain rows) t
-plain_row [] t = refl
-plain_row (r ∷ rows) zero = refl
-plain_row (r ∷ rows) (suc t) = plain_row rows t
 
 pub by_fact : (P : Fact → Type 0) → ((x : ℕ) → P (IsSettled x)) → ((k : ℕ) → P (IsRequested k)) → (f : Fact) → P f
 by_fact P a b (IsSettled x) = a x

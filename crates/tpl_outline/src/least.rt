@@ -11,7 +11,7 @@ use crate::rows::{Parts, rows};
 use crate::setting::Setting;
 use std::alloc::{AllocError, Global};
 use tpl_model::{MOST_IN_CHAIN, Property, TaskId, TaskSet};
-use tpl_trees::PlainRow;
+use tpl_trees::Row;
 
 /// The chain of the observed task, or an empty one, if the least rows prove the property with it.
 /// The outline and the tasks are those that bear on the property.
@@ -65,7 +65,7 @@ pub fn least_rows(
     setting: Setting<'_>,
     property: Property,
     chain: &[TaskId],
-) -> Result<Vec<PlainRow>, AllocError>
+) -> Result<Vec<Row>, AllocError>
     requires { All (IsStageOf setting.graph.now.graph) setting.stages.now }
     ensures { IfOk result (λ rows. length rows.items
         ≡ length setting.entry.graph.now.graph.tasks) }

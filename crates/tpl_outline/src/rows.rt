@@ -9,7 +9,7 @@ use std::alloc::{AllocError, Global};
 use tpl_checker::{Assumptions, Below, parent, some_end};
 use tpl_graph::{Graph, Role};
 use tpl_model::{MOST_TASKS, RuleSet, TaskId, TaskSet};
-use tpl_trees::PlainRow;
+use tpl_trees::{PlainRow, Row};
 
 /// What the rows of a leaf are made of.
 #[derive(Clone, Copy)]
@@ -29,7 +29,7 @@ pub(crate) fn rows(
     parts: Parts<'_>,
     observed: Option<TaskId>,
     chain: &[TaskId],
-) -> Result<Vec<PlainRow>, AllocError>
+) -> Result<Vec<Row>, AllocError>
     ensures { IfOk result (λ rows. length rows.items
         ≡ length parts.entry.graph.now.graph.tasks) }
 {
@@ -54,10 +54,10 @@ fn chain_of<'c>(task: TaskId, observed: Option<TaskId>, chain: &'c [TaskId]) -> 
 fn row(
     alloc: Global,
     parts: Parts<'_>,
-    rows: &[PlainRow],
+    rows: &[Row],
     task: TaskId,
     chain: &[TaskId],
-) -> Result<PlainRow, AllocError>
+) -> Result<Row, AllocError>
     requires { is_task parts.graph.now.graph task.0 }
 {
     let fate = parts.outline.fate(task);
@@ -68,12 +68,13 @@ fn row(
     };
     let past = past(parts, rows, task);
     let chain = chain.to_vec(alloc)?;
-    Ok(PlainRow::new(fate.ends, fate.runs, before, past, chain))
+    let row = PlainRow::new(fate.ends, fate.runs, before, past, chain);
+    Ok(Row::without_tokens(row))
 }
 
 /// What is settled when a task begins: nothing before a root, before a continuation its antecedent
 /// and what is past it, before a child what is before its parent.
-fn before(graph: &Graph, rows: &[PlainRow], task: TaskId) -> TaskSet
+fn before(graph: &Graph, rows: &[Row], task: TaskId) -> TaskSet
     requires { is_task graph.now.graph task.0 }
 {
     graph.valid_law();
@@ -87,7 +88,7 @@ fn before(graph: &Graph, rows: &[PlainRow], task: TaskId) -> TaskSet
 /// What is settled when a task has ended: for all with a body what is below it; for a child what is
 /// before its parent; and for a continuation that isn't canceled early its antecedent, with what is
 /// past it.
-fn past(parts: Parts<'_>, rows: &[PlainRow], task: TaskId) -> TaskSet
+fn past(parts: Parts<'_>, rows: &[Row], task: TaskId) -> TaskSet
     requires { is_task parts.graph.now.graph task.0 }
 {
     parts.graph.valid_law();
@@ -116,23 +117,23 @@ pub(crate) fn may_end_early(parts: Parts<'_>, task: TaskId) -> bool
         && !parts.graph.options(task).lazy_cancellation()
 }
 
-fn before_parent(graph: &Graph, rows: &[PlainRow], task: TaskId) -> TaskSet
+fn before_parent(graph: &Graph, rows: &[Row], task: TaskId) -> TaskSet
     requires { is_task graph.now.graph task.0 }
 {
     match parent(graph, task) {
         None => TaskSet::empty(),
         Some(parent) => match rows.get(parent.0 as usize) {
             None => TaskSet::empty(),
-            Some(row) => row.before().copy(),
+            Some(row) => row.row().before().copy(),
         },
     }
 }
 
 /// The task and what is past it.
-fn settled_after(rows: &[PlainRow], task: TaskId) -> TaskSet {
+fn settled_after(rows: &[Row], task: TaskId) -> TaskSet {
     let mut settled = match rows.get(task.0 as usize) {
         None => TaskSet::empty(),
-        Some(row) => row.past().copy(),
+        Some(row) => row.row().past().copy(),
     };
     if task.0 < MOST_TASKS {
         settled.insert(task);
@@ -141,7 +142,7 @@ fn settled_after(rows: &[PlainRow], task: TaskId) -> TaskSet {
 }
 
 /// The tasks, and what is past one of them.
-fn settled_after_some(rows: &[PlainRow], tasks: &[TaskId]) -> TaskSet {
+fn settled_after_some(rows: &[Row], tasks: &[TaskId]) -> TaskSet {
     let mut settled = TaskSet::empty();
     for task in tasks {
         settled = settled.union(&settled_after(rows, *task));
@@ -150,7 +151,7 @@ fn settled_after_some(rows: &[PlainRow], tasks: &[TaskId]) -> TaskSet {
 }
 
 /// What is settled after each of the tasks that may win; nothing if there is none.
-fn settled_after_each(parts: Parts<'_>, rows: &[PlainRow], tasks: &[TaskId]) -> TaskSet {
+fn settled_after_each(parts: Parts<'_>, rows: &[Row], tasks: &[TaskId]) -> TaskSet {
     let mut settled = TaskSet::empty();
     let mut is_first = true;
     for task in tasks {

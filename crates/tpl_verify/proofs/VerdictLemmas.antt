@@ -30,7 +30,7 @@ use Rattle.std.proofs.lemmas.List.Elements.{All-append, All-from_recursion, recu
 use Rattle.tpl_verify.specs.Verdicts.{HasNoEnd, HoldsAlways, IsCertified, under, IsNeverKept, IsShallow, IsVerdict, HoldsFully, no_end}
 
 -- an accepted certificate of one claim has one tree
-one_plain : (g : TaskGraph) (claim : Claim) (trees : List Tree) → Accepts g (claim ∷ []) trees → length (map as_wide_tree trees) ≡ 1
+one_plain : (g : TaskGraph) (claim : Claim) (trees : List Tree) → Accepts g (claim ∷ []) trees → length trees ≡ 1
 one_plain g claim [] accepted = absurd accepted
 one_plain g claim (tree ∷ []) accepted = refl
 one_plain g claim (tree ∷ other ∷ rest) accepted = absurd accepted.1
@@ -41,7 +41,7 @@ one_wide g claim (tree ∷ []) accepted = refl
 one_wide g claim (tree ∷ other ∷ rest) accepted = absurd accepted.1
 
 one_tree-of : (rules : RuleSet) (g : TaskGraph) (claim : Claim) (trees : List Tree) → AcceptsBy rules g (claim ∷ []) trees → length trees ≡ 1
-one_tree-of Narrow g claim trees accepted = subst (λ (ts : List Tree). length ts ≡ 1) (sym accepted.1) (one_plain g claim accepted.0 accepted.2)
+one_tree-of Narrow g claim trees accepted = one_plain g claim trees accepted
 one_tree-of Wide g claim trees accepted = one_wide g claim trees accepted
 
 only : (rules : RuleSet) (g : TaskGraph) (claim : Claim) (trees : List Tree) (n : ℕ) → length trees ≡ 1 → AcceptsBy rules g (claim ∷ []) trees → ((tree : Tree) → trees ≡ tree ∷ [] → n ≡ height tree) → IsCertified rules g claim n

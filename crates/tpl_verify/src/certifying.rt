@@ -19,30 +19,16 @@ use tpl_trees::{Node, Tree};
 
 /// How many splits the tree has above its deepest leaf.
 fn splits_of(tree: &Tree) -> u8
-    requires { height (as_wide_tree tree.now) ≤ MOST_SPLITS }
-    ensures { result ≡ height (as_wide_tree tree.now) }
-{
-    match tree.node() {
-        Node::SplitInput(_, first, second) => splits_of(first).max(splits_of(second)) + 1,
-        Node::SplitEnd(_, ran, canceled, faulted) => {
-            splits_of(ran).max(splits_of(canceled).max(splits_of(faulted))) + 1
-        }
-        Node::Leaf(_) => 0,
-    }
-}
-
-/// The same of a tree that may speak of tokens and of winners.
-fn wide_splits_of(tree: &Tree) -> u8
     requires { height tree.now ≤ MOST_SPLITS }
     ensures { result ≡ height tree.now }
 {
     match tree.node() {
         Node::SplitInput(_, first, second) | Node::SplitWinner(_, _, first, second) => {
-            wide_splits_of(first).max(wide_splits_of(second)) + 1
+            splits_of(first).max(splits_of(second)) + 1
         }
         Node::SplitEnd(_, ran, canceled, faulted) => {
-            let others = wide_splits_of(canceled).max(wide_splits_of(faulted));
-            wide_splits_of(ran).max(others) + 1
+            let others = splits_of(canceled).max(splits_of(faulted));
+            splits_of(ran).max(others) + 1
         }
         Node::Leaf(_) | Node::Least => 0,
     }
@@ -54,10 +40,7 @@ fn splits_in(proof: &Proof) -> u8
     ensures { (tree : Tree) → trees_of proof.now ≡ tree ∷ [] → result ≡ height tree }
 {
     proof.limits_law();
-    match proof {
-        Proof::Plain(certificate) => splits_of(&certificate.trees()[0]),
-        Proof::Wide(certificate) => wide_splits_of(&certificate.trees()[0]),
-    }
+    splits_of(&proof.trees()[0])
 }
 
 /// Searches a certificate of the claim by the rules within this budget, and says how many splits it has above its deepest

@@ -8,8 +8,8 @@ use Rattle.tpl_model.specs.Graph.{TaskGraph}
 use Rattle.tpl_model.specs.declared.rule_set.RuleSet.TheVariants.{Wide}
 use Rattle.tpl_model.specs.Valid.{IsGraph}
 use Rattle.tpl_model.specs.Claims.{Claim}
-use Rattle.tpl_model.specs.Certificate.{assumed, own_quiet, taken}
-use Rattle.tpl_model.specs.WiderRules.{LeastLeaf, WideAssumed, narrowed, widely_assumed}
+use Rattle.tpl_model.specs.Certificate.{assumed, own_quiet, taken, LeastLeaf}
+use Rattle.tpl_model.specs.WiderRules.{WideAssumed, narrowed, widely_assumed}
 use Rattle.tpl_laws.specs.Verdict.{LeafFault, ProvesNot, or_else, unless}
 use Rattle.tpl_laws.specs.WiderTests.{WideLeafIsRight, wide_first_broken, wide_proves}
 use Rattle.tpl_laws.specs.WideTrees.{AcceptsRows, WidelyAccepts}

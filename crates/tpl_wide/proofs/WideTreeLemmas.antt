@@ -30,7 +30,8 @@ use Rattle.tpl_wide.specs.Faults.{IsAnswer, WidelyFailing}
 use Rattle.tpl_leaf.specs.Leaf.{row_end, row_facts, wide_assumed}
 use Rattle.tpl_leaf.specs.Narrowed.{narrowed_before}
 use Rattle.tpl_leaf.specs.Winners.{all_leave, leaves_winner}
-use Rattle.tpl_leaf.proofs.Rows.{by_fact, plain_row}
+use Rattle.tpl_checker.proofs.Basics.{plain_row}
+use Rattle.tpl_leaf.proofs.Rows.{by_fact}
 use Rattle.tpl_wide.proofs.WideShapeLemmas.{finds_wide_misfits}
 
 -- where the first part fails, so does the whole

@@ -1,6 +1,5 @@
 use Rattle.std.proofs.Common.{◌≡◌, length, arith}
-use Rattle.tpl_model.specs.Certificate.{row}
-use Rattle.tpl_model.specs.WiderRules.{plain}
+use Rattle.tpl_model.specs.Certificate.{row, plain}
 use Rattle.tpl_draw.specs.Endings.{no_ends}
 use Rattle.tpl_draw.proofs.EachTask.{joins_each}
 use Rattle.tpl_draw.proofs.wide_ending.ends_in_rows.Goals as goal

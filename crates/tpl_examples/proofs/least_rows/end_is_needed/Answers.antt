@@ -1,7 +1,7 @@
 use Rattle.std.proofs.Common.{◌≡◌, Ok, Err, Result, [], ◌∷◌, refl}
 use Rattle.tpl_model.specs.declared.fault.CertFault.{CertFault}
 use Rattle.tpl_model.specs.declared.fault.CertFault.TheVariants.{ClaimNot}
-use Rattle.tpl_model.specs.WiderRules.{LeastLeaf}
+use Rattle.tpl_model.specs.Certificate.{LeastLeaf}
 use Rattle.tpl_examples.proofs.Computed.{valid}
 use Rattle.tpl_examples.specs.CertificateWords.{one_claim}
 use Rattle.tpl_examples.specs.LeastRows.{fetch, not_both, by_end_of}

@@ -4,9 +4,9 @@ use Rattle.tpl_model.specs.Finals.{has}
 use Rattle.tpl_model.specs.Members.{mem}
 use Rattle.tpl_model.specs.Options.{allows}
 use Rattle.tpl_model.specs.Graph.{options, task}
-use Rattle.tpl_model.specs.Certificate.{row}
+use Rattle.tpl_model.specs.Certificate.{row, plain}
 use Rattle.tpl_model.specs.Rules.{token_requested_by}
-use Rattle.tpl_model.specs.WiderRules.{own_among, may_run, plain, wide_row}
+use Rattle.tpl_model.specs.WiderRules.{own_among, may_run, wide_row}
 use Rattle.tpl_laws.specs.RowTests.{implies}
 use Rattle.tpl_checker.proofs.Basics.{implies_each}
 use Rattle.tpl_leaf.specs.Leaf.{graph_of, rows_in}

@@ -1,6 +1,6 @@
 use Rattle.std.proofs.Common.{length, ap, ◌∙◌, arith}
 use Rattle.tpl_model.specs.Finals.{has}
-use Rattle.tpl_model.specs.WiderRules.{plain}
+use Rattle.tpl_model.specs.Certificate.{plain}
 use Rattle.tpl_checker.specs.AllEnds.{with_argument}
 use Rattle.tpl_checker.proofs.AllEndLemmas.{by_all, by_next, by_none}
 use Rattle.tpl_checker.proofs.Basics.{drop_all, next_task}

@@ -1,5 +1,5 @@
 use Rattle.std.proofs.Common.{length}
-use Rattle.tpl_model.specs.WiderRules.{plain}
+use Rattle.tpl_model.specs.Certificate.{plain}
 use Rattle.tpl_checker.proofs.AllEndLemmas.{EndsByFirst}
 use Rattle.tpl_leaf.specs.Leaf.{graph_of, rows_in}
 use Rattle.tpl_leaf.proofs.ends.all_end.Given as goal

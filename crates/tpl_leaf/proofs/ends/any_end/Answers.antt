@@ -4,8 +4,7 @@ use Rattle.tpl_model.specs.declared.finals.Final.TheVariants.{RanToCompletion, C
 use Rattle.tpl_model.specs.Finals.{has, is_final}
 use Rattle.tpl_draft.specs.Ids.{task_number}
 use Rattle.tpl_model.specs.Graph.{some_in}
-use Rattle.tpl_model.specs.Certificate.{may_end, one_ends}
-use Rattle.tpl_model.specs.WiderRules.{plain}
+use Rattle.tpl_model.specs.Certificate.{may_end, one_ends, plain}
 use Rattle.tpl_checker.proofs.Basics.{some_end_of_one, some_end_same}
 use Rattle.tpl_leaf.specs.Leaf.{assumed_in, rows_in}
 use Rattle.tpl_leaf.proofs.ends.any_end.Goals as goal

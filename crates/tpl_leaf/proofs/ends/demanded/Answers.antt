@@ -4,8 +4,7 @@ use Rattle.tpl_model.specs.declared.finals.Final.TheVariants.{RanToCompletion}
 use Rattle.tpl_model.specs.Finals.{is_final}
 use Rattle.tpl_draft.specs.Ids.{task_number}
 use Rattle.tpl_model.specs.Graph.{some_in}
-use Rattle.tpl_model.specs.Certificate.{end_left, may_end}
-use Rattle.tpl_model.specs.WiderRules.{plain}
+use Rattle.tpl_model.specs.Certificate.{end_left, may_end, plain}
 use Rattle.tpl_leaf.specs.Leaf.{assumed_in, rows_in}
 use Rattle.tpl_leaf.specs.LeafRules.{has_to_end_as}
 use Rattle.tpl_leaf.proofs.EndLemmas.{ends_left}

@@ -1,7 +1,6 @@
 use Rattle.std.proofs.Common.{ap, ◌∙◌}
 use Rattle.tpl_model.specs.Finals.{has}
-use Rattle.tpl_model.specs.Certificate.{row}
-use Rattle.tpl_model.specs.WiderRules.{plain}
+use Rattle.tpl_model.specs.Certificate.{row, plain}
 use Rattle.tpl_laws.specs.RowTests.{each_end, implies}
 use Rattle.tpl_leaf.specs.Leaf.{rows_in}
 use Rattle.tpl_leaf.specs.LeafRules.{kind_left_in}

@@ -1,5 +1,5 @@
 use Rattle.std.proofs.Common.{◌≡◌, ◌<◌, ◌∙◌, length, sym, arith}
-use Rattle.tpl_model.specs.WiderRules.{plain}
+use Rattle.tpl_model.specs.Certificate.{plain}
 use Rattle.tpl_checker.proofs.CompleteLemmas.{next_not_stuck, none_stuck, stuck_there}
 use Rattle.tpl_leaf.specs.Leaf.{graph_of, rows_in}
 use Rattle.tpl_leaf.proofs.property.none_complete.Goals as goal

@@ -1,4 +1,4 @@
-use Rattle.tpl_model.specs.WiderRules.{plain}
+use Rattle.tpl_model.specs.Certificate.{plain}
 use Rattle.tpl_checker.proofs.CompleteLemmas.{NoneStuck}
 use Rattle.tpl_leaf.specs.Leaf.{graph_of, rows_in}
 use Rattle.tpl_leaf.proofs.property.none_complete.Given as goal

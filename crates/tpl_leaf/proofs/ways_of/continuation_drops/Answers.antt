@@ -3,8 +3,8 @@ use Rattle.tpl_model.specs.declared.finals.Final.{Final}
 use Rattle.tpl_model.specs.Finals.{has}
 use Rattle.tpl_model.specs.Options.{allows, lazy_cancellation}
 use Rattle.tpl_model.specs.Graph.{Continues, options}
-use Rattle.tpl_model.specs.Certificate.{row}
-use Rattle.tpl_model.specs.WiderRules.{DroppedEarly, DroppedLate, NotAllowed, plain}
+use Rattle.tpl_model.specs.Certificate.{row, plain}
+use Rattle.tpl_model.specs.WiderRules.{DroppedEarly, DroppedLate, NotAllowed}
 use Rattle.tpl_laws.specs.RowTests.{some_end}
 use Rattle.tpl_leaf.specs.Leaf.{graph_of, rows_in}
 use Rattle.tpl_leaf.specs.LeafRules.{holds_as}

@@ -1,6 +1,6 @@
 use Rattle.std.proofs.Common.{◌∷◌, [], subst}
 use Rattle.tpl_model.specs.Graph.{TaskGraph}
-use Rattle.tpl_model.specs.WiderRules.{LeastLeaf}
+use Rattle.tpl_model.specs.Certificate.{LeastLeaf}
 use Rattle.tpl_laws.specs.WideTrees.{WidelyAccepts}
 use Rattle.tpl_verify.proofs.VerdictLemmas.{always_at_once, at_once}
 use Rattle.tpl_verify.proofs.verifying.is_accepted.Goals as goal

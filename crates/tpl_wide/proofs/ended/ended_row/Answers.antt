@@ -3,7 +3,7 @@ use Rattle.tpl_model.specs.declared.finals.Final.TheVariants.{RanToCompletion, C
 use Rattle.tpl_model.specs.WiderRules.{kind_left}
 use Rattle.tpl_laws.specs.LeastRows.{ended_by, ends_where, has_to_end_so}
 use Rattle.tpl_leaf.specs.Leaf.{graph_of, assumed_in, rows_in}
-use Rattle.tpl_leaf.proofs.Rows.{plain_row}
+use Rattle.tpl_checker.proofs.Basics.{plain_row}
 use Rattle.tpl_wide.proofs.RowLemmas.{row_is, wide_row_is}
 use Rattle.tpl_wide.proofs.ended.ended_row.Goals as goal
 

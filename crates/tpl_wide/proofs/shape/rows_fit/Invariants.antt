@@ -1,5 +1,5 @@
 use Rattle.std.proofs.Common.{◌≡◌, drop}
-use Rattle.tpl_model.specs.WiderRules.{plain}
+use Rattle.tpl_model.specs.Certificate.{plain}
 use Rattle.tpl_laws.specs.Verdict.{rows_fit}
 use Rattle.tpl_wide.proofs.shape.rows_fit.Given as goal
 

@@ -1,5 +1,6 @@
 use Rattle.std.proofs.Common.{◌≡◌, ◌∙◌}
-use Rattle.tpl_model.specs.WiderRules.{narrowed, plain}
+use Rattle.tpl_model.specs.Certificate.{plain}
+use Rattle.tpl_model.specs.WiderRules.{narrowed}
 use Rattle.tpl_laws.specs.Verdict.{rows_fit}
 use Rattle.tpl_laws.specs.WiderTests.{wide_leaf_fault}
 use Rattle.tpl_laws.specs.LeastRows.{least_rows}

@@ -1,6 +1,6 @@
 use Rattle.std.proofs.Common.{◌∙◌, length, refl, sym}
 use Rattle.tpl_model.proofs.Truths.{true_false}
-use Rattle.tpl_model.specs.WiderRules.{plain}
+use Rattle.tpl_model.specs.Certificate.{plain}
 use Rattle.tpl_laws.specs.Verdict.{rows_fit}
 use Rattle.tpl_laws.specs.WiderTests.{wide_first_broken}
 use Rattle.tpl_checker.specs.Leaves.{fault_in, why}

@@ -1,6 +1,6 @@
 use Rattle.std.proofs.Common.{ap, ◌∙◌}
 use Rattle.tpl_leaf.specs.Leaf.{rows_in}
-use Rattle.tpl_leaf.proofs.Rows.{plain_row}
+use Rattle.tpl_checker.proofs.Basics.{plain_row}
 use Rattle.tpl_leaf.proofs.leaf.Leaf.row.Goals as goal
 
 pub returns : goal.returns

@@ -1,5 +1,5 @@
 use Rattle.std.proofs.Common.{length}
-use Rattle.tpl_model.specs.WiderRules.{plain}
+use Rattle.tpl_model.specs.Certificate.{plain}
 use Rattle.tpl_leaf.specs.Leaf.{graph_of, assumed_in, rows_in}
 use Rattle.tpl_leaf.proofs.Winning.{EndsSoFar}
 use Rattle.tpl_leaf.proofs.leaf.Leaf.winner_ends.Given as goal

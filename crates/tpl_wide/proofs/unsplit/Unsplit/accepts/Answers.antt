@@ -1,8 +1,7 @@
 use Rattle.std.proofs.Common.{◌≡◌, ◌↔◌, ◌∷◌, [], Bool, IsTrue, subst, sym}
 use Rattle.tpl_model.specs.declared.claim.Property.{Property}
 use Rattle.tpl_model.specs.declared.ids.TaskId.{TaskId}
-use Rattle.tpl_model.specs.Certificate.{own_quiet}
-use Rattle.tpl_model.specs.WiderRules.{LeastLeaf}
+use Rattle.tpl_model.specs.Certificate.{own_quiet, LeastLeaf}
 use Rattle.tpl_laws.specs.LeastRows.{least_rows}
 use Rattle.tpl_laws.specs.WiderTests.{wide_proves}
 use Rattle.tpl_laws.specs.WideTrees.{WidelyAccepts}

@@ -2,7 +2,8 @@ use Rattle.std.proofs.Common.{◌≡◌, ◌∙◌, ◌↔◌, [], IsTrue, true,
 use Rattle.tpl_model.specs.declared.claim.Property.{Property}
 use Rattle.tpl_model.specs.declared.ids.TaskId.{TaskId}
 use Rattle.tpl_model.specs.Graph.{TaskGraph}
-use Rattle.tpl_model.specs.WiderRules.{LeastLeaf, WideAssumed, widely_assumed}
+use Rattle.tpl_model.specs.Certificate.{LeastLeaf}
+use Rattle.tpl_model.specs.WiderRules.{WideAssumed, widely_assumed}
 use Rattle.tpl_laws.specs.WideTrees.{AcceptsWideTree}
 use Rattle.tpl_leaf.specs.Leaf.{wide_assumed}
 use Rattle.tpl_wide.specs.Unsplit.{graph_under}
