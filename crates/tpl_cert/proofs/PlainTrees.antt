@@ -1,23 +1,15 @@
 -- By the narrow rules a row says nothing of tokens.
-use Rattle.std.proofs.Common.{◌≡◌, ℕ, zero, suc, List, [], ◌∷◌, Bool, true, false, Option, Some, None, Ordering, Less, Equal, Greater, nat_cmp, codes, refl, sym, ap, subst, ◌∙◌, true≢false}
+use Rattle.std.proofs.Common.{◌≡◌, ℕ, List, [], true, false, Option, Some, None, Ordering, Less, Equal, Greater, nat_cmp, refl, sym, ap, subst, ◌∙◌, true≢false}
 use Rattle.std.specs.Cmp.Lexicographic.{slice_cmp}
-use Rattle.std.specs.List.{All}
 use Rattle.std.specs.Ordering.{match_ordering}
-use Rattle.std.specs.Prelude.{if◌then◌else◌}
-use Rattle.std.proofs.lemmas.List.Elements.{All-nil, All-cons}
-use Rattle.serde_json.specs.Data.{Data, Members, no_members, member, null, boolean, number, string, array, object, depth}
+use Rattle.serde_json.specs.Data.{Data, Members, no_members, member, null, boolean, number, string, array, object}
 use Rattle.serde_json.specs.Find.{get, get_member}
 use Rattle.tpl_model.proofs.Truths.{and_first, and_second}
 use Rattle.tpl_model.specs.declared.rule_set.RuleSet.{RuleSet}
 use Rattle.tpl_model.specs.declared.rule_set.RuleSet.TheVariants.{Narrow}
-use Rattle.tpl_json.specs.Members.{◌>>=◌, ◌<$>◌, ◌<*>◌, only_if, is_one_of, members_within, has_only, has_member, text_in, bool_in, list_in, list_or_none, each, texts_in}
-use Rattle.tpl_json.specs.Finals.{no_finals, finals_at}
-use Rattle.tpl_json.proofs.Arrays.{bind_some, some_is, each_parts, each_nothing}
-use Rattle.tpl_json.proofs.Json.{only_is}
+use Rattle.tpl_json.specs.Members.{is_one_of, members_within, has_only, list_or_none, each, texts_in}
 use Rattle.tpl_json.proofs.DataOf.{keys_same}
-use Rattle.tpl_cert.specs.NamedTrees.{NamedRow, NamedTree, SplitInput, SplitEnd, Leaf}
-use Rattle.tpl_cert.specs.Plain.{IsPlainRow, IsPlain}
-use Rattle.tpl_cert.specs.Reading.{row_names, row_at, leaf_at, inside, input_at, end_at, node_at, tree_at, whole_tree}
+use Rattle.tpl_cert.specs.Reading.{row_names}
 
 -- ---- what an object with no other members lacks
 

@@ -14,7 +14,7 @@ use tpl_graph::Graph;
 use tpl_json::{Miss, read_each};
 use tpl_model::{InputId, MOST_TASKS, MOST_TOKENS, TaskId, TaskSet, TokenId};
 use tpl_paths::TokenSet;
-use tpl_trees::{Node, PlainRow, Tree, Row};
+use tpl_trees::{Node, PlainRow, Row, Tree};
 
 fn input_in(graph: &Graph, name: &str) -> Result<InputId, Miss<TreeFault>>
     ensures yields { Yields input_number result (number_in graph.now.names.inputs name.now) }

@@ -200,12 +200,7 @@ fn write_wide_row(graph: &Graph, row: &Row, out: &mut Writer) -> Result<(), Tree
 }
 
 /// A row by the rules.
-fn write_row(
-    graph: &Graph,
-    rules: RuleSet,
-    row: &Row,
-    out: &mut Writer,
-) -> Result<(), TreeToFault>
+fn write_row(graph: &Graph, rules: RuleSet, row: &Row, out: &mut Writer) -> Result<(), TreeToFault>
     requires { rules ≡ Narrow → (row.now.asked ≡ []) × (row.now.asks ≡ []) }
     ensures { Writes result (has_row_ids graph.now.names row.now)
         (λ _. PutsValue (row_data rules graph.now.names row.now) out.old out.new

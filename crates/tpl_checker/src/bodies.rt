@@ -66,8 +66,9 @@ impl Bodies {
     fn with(self, graph: &Graph, assumed: &Assumptions, rows: &[Row], task: TaskId) -> Bodies
         requires task { is_task graph.now.graph task.0 }
         requires rows { length (plain rows.now) ≡ length graph.now.graph.tasks }
-        ensures { AreFirstBodies graph.now.graph (assumed_of assumed.now) (plain rows.now) task.0 self
-            → AreFirstBodies graph.now.graph (assumed_of assumed.now) (plain rows.now) (task.0 + 1) result }
+        ensures { AreFirstBodies graph.now.graph (assumed_of assumed.now) (plain rows.now) task.0
+            self → AreFirstBodies graph.now.graph (assumed_of assumed.now) (plain rows.now) (task.0
+            + 1) result }
     {
         graph.valid_law();
         tpl_model::may_is_right();

@@ -65,8 +65,8 @@ fn may_end(
     requires task { is_task graph.now.graph task.0 }
     requires rows { length (plain rows.now) ≡ length graph.now.graph.tasks }
     ensures { AreBodies graph.now.graph (assumed_of assumed.now) (plain rows.now) bodies.now
-        → (f : Final) → has result f ≡ may_end_as graph.now.graph (assumed_of assumed.now) (plain rows.now)
-        task.0 (kind graph.now.graph task.0) f }
+        → (f : Final) → has result f ≡ may_end_as graph.now.graph (assumed_of assumed.now)
+        (plain rows.now) task.0 (kind graph.now.graph task.0) f }
 {
     match graph.role(task) {
         Role::Root => ready_ends(graph, assumed, rows, bodies, task),
@@ -88,11 +88,11 @@ fn ready_ends(
     requires task { is_task graph.now.graph task.0 }
     requires rows { length (plain rows.now) ≡ length graph.now.graph.tasks }
     ensures root { AreBodies graph.now.graph (assumed_of assumed.now) (plain rows.now) bodies.now
-        → (f : Final) → has result f ≡ may_end_as graph.now.graph (assumed_of assumed.now) (plain rows.now)
-        task.0 Root f }
+        → (f : Final) → has result f ≡ may_end_as graph.now.graph (assumed_of assumed.now)
+        (plain rows.now) task.0 Root f }
     ensures child { AreBodies graph.now.graph (assumed_of assumed.now) (plain rows.now) bodies.now
-        → (f : Final) → has result f ≡ may_end_as graph.now.graph (assumed_of assumed.now) (plain rows.now)
-        task.0 Child f }
+        → (f : Final) → has result f ≡ may_end_as graph.now.graph (assumed_of assumed.now)
+        (plain rows.now) task.0 Child f }
 {
     let ends = body_ends(graph, rows, bodies, task);
     let runs = row(rows, task).runs();
@@ -113,8 +113,8 @@ fn continued_ends(
     requires antecedent { is_task graph.now.graph antecedent.0 }
     requires rows { length (plain rows.now) ≡ length graph.now.graph.tasks }
     ensures { AreBodies graph.now.graph (assumed_of assumed.now) (plain rows.now) bodies.now
-        → (f : Final) → has result f ≡ may_end_as graph.now.graph (assumed_of assumed.now) (plain rows.now)
-        task.0 (Continues antecedent.0) f }
+        → (f : Final) → has result f ≡ may_end_as graph.now.graph (assumed_of assumed.now)
+        (plain rows.now) task.0 (Continues antecedent.0) f }
 {
     let ends = body_ends(graph, rows, bodies, task);
     with_canceled(
@@ -146,8 +146,8 @@ fn may_be_canceled(
     requires task { is_task graph.now.graph task.0 }
     requires antecedent { is_task graph.now.graph antecedent.0 }
     requires rows { length (plain rows.now) ≡ length graph.now.graph.tasks }
-    ensures { result ≡ may_be_canceled graph.now.graph (assumed_of assumed.now) (plain rows.now) task.0
-        antecedent.0 }
+    ensures { result ≡ may_be_canceled graph.now.graph (assumed_of assumed.now) (plain rows.now)
+        task.0 antecedent.0 }
 {
     let options = graph.options(task);
     let ends = row(rows, antecedent).ends();
@@ -199,8 +199,8 @@ fn child_may_fault(graph: &Graph, rows: &[Row], bodies: &Bodies, task: TaskId) -
 /// One of the tasks is in the set and may end Faulted.
 fn some_faults(rows: &[Row], started: &TaskSet, tasks: &[TaskId]) -> bool
     requires { AreTasks (length (plain rows.now)) tasks.now }
-    ensures { result ≡ some_in (λ c. mem c started.now && has (row (plain rows.now) c).ends finals.Faulted)
-        (map task_number tasks.now) }
+    ensures { result ≡ some_in (λ c. mem c started.now && has (row (plain rows.now) c).ends
+        finals.Faulted) (map task_number tasks.now) }
 {
     for task in tasks {
         if started.contains(*task) && row(rows, *task).ends().faulted {
@@ -214,7 +214,8 @@ fn some_faults(rows: &[Row], started: &TaskSet, tasks: &[TaskId]) -> bool
 /// RanToCompletion.
 fn all_end(rows: &[Row], args: &[TaskId]) -> Finals
     requires { AreTasks (length (plain rows.now)) args.now }
-    ensures { (f : Final) → has result f ≡ all_may_end (plain rows.now) (map task_number args.now) f }
+    ensures { (f : Final) → has result f ≡ all_may_end (plain rows.now) (map task_number args.now)
+        f }
 {
     let mut found = AllEnds::none();
     for arg in args {

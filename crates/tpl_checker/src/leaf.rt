@@ -76,7 +76,8 @@ pub(crate) fn leaf_fault(
     requires below { AreBelow graph.now.graph below.now }
     requires rows { length (plain rows.now) ≡ length graph.now.graph.tasks }
     requires ids { IsTrue (rows_fit graph.now.graph (plain rows.now)) }
-    requires bodies { AreBodies graph.now.graph (assumed_of assumed.now) (plain rows.now) bodies.now }
+    requires bodies { AreBodies graph.now.graph (assumed_of assumed.now) (plain rows.now)
+        bodies.now }
     ensures { fault_in result ≡ leaf_fault graph.now.graph property (assumed_of assumed.now)
         (plain rows.now) }
 {
@@ -100,9 +101,10 @@ fn first_broken(
     requires below { AreBelow graph.now.graph below.now }
     requires rows { length (plain rows.now) ≡ length graph.now.graph.tasks }
     requires ids { IsTrue (rows_fit graph.now.graph (plain rows.now)) }
-    requires bodies { AreBodies graph.now.graph (assumed_of assumed.now) (plain rows.now) bodies.now }
-    ensures { fault_in result ≡ first_broken graph.now.graph (assumed_of assumed.now) (plain rows.now) 0
-        (length graph.now.graph.tasks) }
+    requires bodies { AreBodies graph.now.graph (assumed_of assumed.now) (plain rows.now)
+        bodies.now }
+    ensures { fault_in result ≡ first_broken graph.now.graph (assumed_of assumed.now)
+        (plain rows.now) 0 (length graph.now.graph.tasks) }
 {
     for task in 0..graph.len() {
         let task = TaskId(task as u16);
@@ -126,7 +128,8 @@ fn broken(
     requires below { AreBelow graph.now.graph below.now }
     requires rows { length (plain rows.now) ≡ length graph.now.graph.tasks }
     requires ids { IsTrue (rows_fit graph.now.graph (plain rows.now)) }
-    requires bodies { AreBodies graph.now.graph (assumed_of assumed.now) (plain rows.now) bodies.now }
+    requires bodies { AreBodies graph.now.graph (assumed_of assumed.now) (plain rows.now)
+        bodies.now }
     ensures { result ≡ broken graph.now.graph (assumed_of assumed.now) (plain rows.now) task.0 }
 {
     if !runs(graph, rows, bodies, task) {

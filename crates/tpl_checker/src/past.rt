@@ -47,8 +47,8 @@ fn is_past_child(graph: &Graph, below: &Below, rows: &[Row], task: TaskId) -> bo
     requires task { is_task graph.now.graph task.0 }
     requires rows { length (plain rows.now) ≡ length graph.now.graph.tasks }
     requires below { AreBelow graph.now.graph below.now }
-    ensures { (l : Assumed) → result ≡ all_in (past_by graph.now.graph l (plain rows.now) task.0 Child)
-        (row (plain rows.now) task.0).past }
+    ensures { (l : Assumed) → result ≡ all_in (past_by graph.now.graph l (plain rows.now) task.0
+        Child) (row (plain rows.now) task.0).past }
 {
     graph.valid_law();
     match parent(graph, task) {
@@ -74,8 +74,8 @@ fn is_past_continuation(
     requires antecedent { is_task graph.now.graph antecedent.0 }
     requires rows { length (plain rows.now) ≡ length graph.now.graph.tasks }
     requires below { AreBelow graph.now.graph below.now }
-    ensures { result ≡ all_in (past_by graph.now.graph (assumed_of assumed.now) (plain rows.now) task.0
-        (Continues antecedent.0)) (row (plain rows.now) task.0).past }
+    ensures { result ≡ all_in (past_by graph.now.graph (assumed_of assumed.now) (plain rows.now)
+        task.0 (Continues antecedent.0)) (row (plain rows.now) task.0).past }
 {
     graph.valid_law();
     let past = past_of(rows, task);
@@ -89,7 +89,8 @@ fn is_past_continuation(
 fn may_end_early(graph: &Graph, assumed: &Assumptions, rows: &[Row], task: TaskId) -> bool
     requires task { is_task graph.now.graph task.0 }
     requires rows { length (plain rows.now) ≡ length graph.now.graph.tasks }
-    ensures { result ≡ may_end_early graph.now.graph (assumed_of assumed.now) (plain rows.now) task.0 }
+    ensures { result ≡ may_end_early graph.now.graph (assumed_of assumed.now) (plain rows.now)
+        task.0 }
 {
     let loud = assumed.is_loud(graph, task);
     let lazy = graph.options(task).lazy_cancellation();

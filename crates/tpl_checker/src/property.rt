@@ -24,7 +24,8 @@ pub(crate) fn proves(
 ) -> bool
     requires tasks { TasksOf graph.now.graph property }
     requires rows { length (plain rows.now) ≡ length graph.now.graph.tasks }
-    requires bodies { AreBodies graph.now.graph (assumed_of assumed.now) (plain rows.now) bodies.now }
+    requires bodies { AreBodies graph.now.graph (assumed_of assumed.now) (plain rows.now)
+        bodies.now }
     ensures { result ≡ proves graph.now.graph (assumed_of assumed.now) (plain rows.now) property }
 {
     match property {
@@ -63,8 +64,10 @@ fn is_observed(
 ) -> bool
     requires task { is_task graph.now.graph task.0 }
     requires rows { length (plain rows.now) ≡ length graph.now.graph.tasks }
-    requires bodies { AreBodies graph.now.graph (assumed_of assumed.now) (plain rows.now) bodies.now }
-    ensures { result ≡ proves graph.now.graph (assumed_of assumed.now) (plain rows.now) (Observed task) }
+    requires bodies { AreBodies graph.now.graph (assumed_of assumed.now) (plain rows.now)
+        bodies.now }
+    ensures { result ≡ proves graph.now.graph (assumed_of assumed.now) (plain rows.now) (Observed
+        task) }
 {
     let has_chain = !row(rows, task).chain().is_empty();
     let faulted = row(rows, task).ends().faulted;
@@ -114,7 +117,8 @@ fn none_complete(graph: &Graph, rows: &[Row]) -> bool
 fn is_stuck(graph: &Graph, rows: &[Row], task: TaskId) -> bool
     requires task { is_task graph.now.graph task.0 }
     requires rows { length (plain rows.now) ≡ length graph.now.graph.tasks }
-    ensures { result ≡ (to_end (kind graph.now.graph task.0) false && not (may_end (plain rows.now) task.0)) }
+    ensures { result ≡ (to_end (kind graph.now.graph task.0) false && not (may_end (plain rows.now)
+        task.0)) }
 {
     has_to_end(graph, task) && !may_end(rows, task)
 }

@@ -80,7 +80,8 @@ pub fn implies(condition: bool, other: bool) -> bool
 pub(crate) fn settled_after(rows: &[Row], task: TaskId) -> TaskSet
     requires row { task.0 < length (plain rows.now) }
     requires limit { length (plain rows.now) ≤ MOST_TASKS }
-    ensures { (x : ℕ) → mem x result ≡ (nat_eq x task.0 || mem x (row (plain rows.now) task.0).past) }
+    ensures { (x : ℕ) → mem x result ≡ (nat_eq x task.0 || mem x (row (plain rows.now)
+        task.0).past) }
 {
     let mut settled = past_of(rows, task).copy();
     settled.insert(task);

@@ -2,7 +2,7 @@
 
 ghost use Rattle.std.specs.Prelude.{◌≡◌, ◌&&◌, ℕ, length, map, nat_lt};
 ghost use Rattle.tpl_draft.specs.Prelude.{task_number};
-ghost use Rattle.tpl_laws.specs.Prelude.{are_plain, fits, has_tasks, misfit, rows_fit};
+ghost use Rattle.tpl_laws.specs.Prelude.{are_plain, fits, has_tasks, is_none, misfit, rows_fit};
 ghost use Rattle.tpl_model.specs.Prelude.{mem, plain};
 
 use crate::rows::within;
@@ -51,11 +51,18 @@ pub(crate) fn are_plain(rows: &[Row]) -> bool
     ensures { result ≡ are_plain rows.now }
 {
     for row in rows {
-        if !row.is_plain() {
+        if !is_plain(row) {
             return false;
         }
     }
     true
+}
+
+/// The row says nothing of tokens.
+fn is_plain(row: &Row) -> bool
+    ensures { result ≡ (is_none row.now.asked && is_none row.now.asks) }
+{
+    row.is_plain()
 }
 
 /// Each id in the row is the graph's, whose tasks are all of these.

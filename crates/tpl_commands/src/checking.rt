@@ -43,10 +43,7 @@ fn check_narrowly(document: &Document) -> Result<(), CertFault>
 }
 
 /// The same by the wide rules.
-fn check_widely(
-    alloc: Global,
-    document: &Document,
-) -> Result<Result<(), CertFault>, AllocError>
+fn check_widely(alloc: Global, document: &Document) -> Result<Result<(), CertFault>, AllocError>
     requires claims { All (Fits document.now.graph.graph) document.now.claims.items }
     requires rules { rules_of (doc_of document.now) ≡ Wide }
     ensures { IfOk result (IsCheckOf (doc_of document.now)) }

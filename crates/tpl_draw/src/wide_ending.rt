@@ -19,11 +19,7 @@ use tpl_trees::{Node, Row, Tree};
 use tpl_wide::{Check, WinnerSplit, links, rows_left_out, with_split};
 
 /// How each task may end by the rows of a leaf, or in these other ways.
-fn ends_in_rows(
-    alloc: Global,
-    rows: &[Row],
-    others: &[Finals],
-) -> Result<Vec<Finals>, AllocError>
+fn ends_in_rows(alloc: Global, rows: &[Row], others: &[Finals]) -> Result<Vec<Finals>, AllocError>
     ensures { IfOk result (λ found.
         JoinsEnds others.now (λ t. (row (plain rows.now) t).ends) found.items) }
 {

@@ -28,6 +28,6 @@ pub use links::{
 pub use runs::{failed_by_its_label, is_bounded, nothing_goes_back, prefix_is_run};
 pub use settled::{settled_before_its_begin, settled_without_begin};
 pub use sound::{
-    more_is_assumed, some_leaf_is_true, some_wide_leaf_is_true, sound_by_rules, soundness, tokens_accept_more, tokens_are_more,
-    wide_rows_are_true, wide_soundness,
+    more_is_assumed, some_leaf_is_true, some_wide_leaf_is_true, sound_by_rules, soundness,
+    tokens_accept_more, tokens_are_more, wide_rows_are_true, wide_soundness,
 };

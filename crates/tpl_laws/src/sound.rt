@@ -32,12 +32,14 @@ pub fn tokens_accept_more()
     ensures { TokensAcceptMore }
 {}
 
-/// What the rows of some leaf of a tree that the narrow rules accept say is true of each run of which the claim's given is true.
+/// What the rows of some leaf of a tree that the narrow rules accept say is true of each run of which the claim's given
+/// is true.
 pub fn some_leaf_is_true()
     ensures { SomeLeafIsTrue }
 {}
 
-/// What the rows of some leaf of a tree that the wide rules accept say is true of each run of which the claim's given is true.
+/// What the rows of some leaf of a tree that the wide rules accept say is true of each run of which the claim's given is
+/// true.
 pub fn some_wide_leaf_is_true()
     ensures { SomeWideLeafIsTrue }
 {}

@@ -40,7 +40,13 @@ impl PlainRow {
     /// A row: how the task may end, whether it may begin, the tasks that are settled when it begins, those that are
     /// settled when it has ended, and the tasks that take its exception over, one after another, the last of which
     /// reads it (none where that isn't shown).
-    pub fn new(ends: Finals, runs: bool, before: TaskSet, past: TaskSet, chain: Vec<TaskId>) -> PlainRow
+    pub fn new(
+        ends: Finals,
+        runs: bool,
+        before: TaskSet,
+        past: TaskSet,
+        chain: Vec<TaskId>,
+    ) -> PlainRow
         ensures ends { result.ends ≡ ends }
         ensures runs { result.runs ≡ runs }
         ensures before { result.before ≡ before }

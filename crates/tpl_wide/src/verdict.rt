@@ -58,12 +58,7 @@ pub fn check_wide(
 }
 
 /// The first fault: shapes first, then claim by claim.
-fn verdict(
-    alloc: Global,
-    graph: &Graph,
-    claims: &[Claim],
-    trees: &[Tree],
-) -> Result<(), WideFault>
+fn verdict(alloc: Global, graph: &Graph, claims: &[Claim], trees: &[Tree]) -> Result<(), WideFault>
     requires claims { All (Fits graph.now.graph) claims.now }
     requires trees { All (λ tree. height tree ≤ MOST_SPLITS) trees.now }
     ensures { IsAnswer (wide_verdict graph.now.graph claims.now trees.now) result }
