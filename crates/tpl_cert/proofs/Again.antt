@@ -13,7 +13,7 @@ use Rattle.tpl_json.specs.Finals.{no_finals, final_word, final_at, finals_at}
 use Rattle.tpl_trees.specs.Sets.{IsSet}
 use Rattle.tpl_cert.specs.NamedTrees.{NamedRow, NamedTree, SplitInput, SplitEnd, SplitWinner, Leaf, Least}
 use Rattle.tpl_cert.specs.Reading.{row_at, leaf_at, input_at, end_at, winner_at, node_at, whole_tree}
-use Rattle.tpl_cert.specs.Naming.{number_of, set_in, plain_row_in, row_in, tree_in}
+use Rattle.tpl_cert.specs.Naming.{number_of, set_in, row_in, tree_in}
 use Rattle.tpl_cert.specs.Written.{texts_data, words_of, row_data, tree_data, name_at, is_id, has_row_ids, has_ids, HasRowSets, HasSets}
 use Rattle.tpl_cert.specs.Spelled.{spelled_tree}
 use Rattle.tpl_model.specs.declared.rule_set.RuleSet.{RuleSet}
@@ -147,7 +147,7 @@ pub record AreOnce (n : Names) : Type 0 where
   pub tokens : some_twice n.tokens ≡ false
 
 row_named : (n : Names) → AreOnce n → (r : Row) → has_row_ids n r ≡ true → HasRowSets r → row_in n (named_row n r) ≡ Ok r
-unfolding plain_row_in row_in
+unfolding row_in
 row_named n once r h sets =
     let more = and_second (list_all (is_id n.tokens) r.asked) _ h in
     let tasks = and_second (list_all (is_id n.tokens) r.asks) _ more in

@@ -3,7 +3,7 @@ use Rattle.std.specs.Prelude.{ℕ, Bool, List, Option, is_some, Result, Ok, ok_o
 use Rattle.std.specs.List.{position}
 use Rattle.std.specs.Str.{bytes_eq}
 use Rattle.tpl_model.specs.declared.limits.TheConstants.{MOST_TASKS, MOST_TOKENS}
-use Rattle.tpl_model.specs.Certificate.{PlainRow, Row, Tree, OnInput, OnEnd, OnWinner, RowsLeaf, LeastLeaf}
+use Rattle.tpl_model.specs.Certificate.{Row, Tree, OnInput, OnEnd, OnWinner, RowsLeaf, LeastLeaf}
 use Rattle.tpl_draft.specs.Named.{Names}
 use Rattle.tpl_json.specs.Passes.{◌>>=◌, each_from, all_or}
 use Rattle.tpl_trees.specs.Sets.{as_set}
@@ -31,21 +31,15 @@ set_in most names texts = do
   ns ← numbers_in names texts
   Ok (as_set most ns)
 
--- a row, without its tokens
-unfoldable pub plain_row_in : Names → NamedRow → Result PlainRow TreeFault
-plain_row_in n r = do
-  before ← set_in MOST_TASKS n.tasks r.before
-  past ← set_in MOST_TASKS n.tasks r.past
-  chain ← numbers_in n.tasks r.chain
-  Ok (record { ends = r.ends; runs = r.runs; before = before; past = past; chain = chain })
-
 -- a row
 unfoldable pub row_in : Names → NamedRow → Result Row TreeFault
 row_in n r = do
-  row ← plain_row_in n r
+  before ← set_in MOST_TASKS n.tasks r.before
+  past ← set_in MOST_TASKS n.tasks r.past
+  chain ← numbers_in n.tasks r.chain
   asked ← set_in MOST_TOKENS n.tokens r.asked
   asks ← set_in MOST_TOKENS n.tokens r.asks
-  Ok (record { row = row; asked = asked; asks = asks })
+  Ok (record { row = record { ends = r.ends; runs = r.runs; before = before; past = past; chain = chain }; asked = asked; asks = asks })
 
 -- the rows of a leaf
 abbrev pub rows_in : Names → List NamedRow → Result (List Row) TreeFault

@@ -1,7 +1,7 @@
 //! Ids for the names of a tree.
 
 ghost use Rattle.std.specs.Prelude.{◌≡◌, map, IfErr};
-ghost use Rattle.tpl_cert.specs.Prelude.{number_in, numbers_in, plain_row_in, row_in, row_of, rows_in, set_in, tree_in, tree_of};
+ghost use Rattle.tpl_cert.specs.Prelude.{number_in, numbers_in, row_in, row_of, rows_in, set_in, tree_in, tree_of};
 ghost use Rattle.tpl_draft.specs.Prelude.{input_number, task_number, token_number};
 ghost use Rattle.tpl_json.specs.Prelude.{Yields};
 ghost use Rattle.tpl_json.specs.declared.miss.Miss.TheVariants as miss;
@@ -80,24 +80,16 @@ fn chain_in(alloc: Global, graph: &Graph, names: &[&str]) -> Result<Vec<TaskId>,
     read_each(alloc, names, |_, name| task_in(graph, name))
 }
 
-/// The row, without its tokens.
-#[tactic(auto, unfolding(crate::specs::Naming::plain_row_in))]
-fn plain_row_in(alloc: Global, graph: &Graph, row: &NamedRow) -> Result<PlainRow, Miss<TreeFault>>
-    ensures { Yields (λ r. r) result (plain_row_in graph.now.names (row_of row.now)) }
-{
-    let before = tasks_in(graph, &row.before)?;
-    let past = tasks_in(graph, &row.past)?;
-    let chain = chain_in(alloc, graph, &row.chain)?;
-    Ok(PlainRow::new(row.ends, row.runs, before, past, chain))
-}
-
 #[tactic(auto, unfolding(crate::specs::Naming::row_in))]
 fn row_in(alloc: Global, graph: &Graph, row: &NamedRow) -> Result<Row, Miss<TreeFault>>
     ensures { Yields (λ r. r) result (row_in graph.now.names (row_of row.now)) }
 {
-    let plain = plain_row_in(alloc, graph, row)?;
+    let before = tasks_in(graph, &row.before)?;
+    let past = tasks_in(graph, &row.past)?;
+    let chain = chain_in(alloc, graph, &row.chain)?;
     let asked = tokens_in(graph, &row.asked)?;
     let asks = tokens_in(graph, &row.asks)?;
+    let plain = PlainRow::new(row.ends, row.runs, before, past, chain);
     Ok(Row::new(plain, asked, asks))
 }
 
@@ -105,7 +97,12 @@ fn rows_in(alloc: Global, graph: &Graph, rows: &[NamedRow]) -> Result<Vec<Row>, 
     ensures { Yields (λ v. v.items) result
         (rows_in graph.now.names (map row_of rows.now)) }
 {
-    read_each(alloc, rows, |_, row| row_in(alloc, graph, row))
+    let mut found = Vec::with_capacity(alloc, rows.len())?;
+    for row in rows {
+        let row = row_in(alloc, graph, row)?;
+        found.push(row)?;
+    }
+    Ok(found)
 }
 
 #[cycle(naming)]
