@@ -9,7 +9,7 @@ use Rattle.tpl_model.specs.declared.status.Label.TheVariants.{Thrown, OperationC
 use Rattle.tpl_model.specs.declared.outcome.Outcome.{Outcome}
 use Rattle.tpl_model.specs.declared.outcome.Outcome.TheVariants.{Returned, Threw, Acknowledged}
 use Rattle.tpl_model.specs.Statements.{Statements}
-use Rattle.tpl_model.specs.Coding.{statements_code, final_number, final_at, final_at-number}
+use Rattle.tpl_model.specs.Coding.{statements_code}
 use Rattle.tpl_model.specs.Graph.{TaskGraph, body, kind}
 use Rattle.tpl_model.specs.declared.event.Event.{Event}
 use Rattle.tpl_model.specs.Facts.{Rest, Ending, on, ended_at_once, carried_in, rest, ending}
@@ -18,6 +18,7 @@ use Rattle.tpl_run.specs.EventCode.{actor_code}
 use Rattle.tpl_model.specs.Members.{mem}
 use Rattle.tpl_run.specs.Atoms.{AreAtoms}
 use Rattle.tpl_run.specs.declared.row.Ended.{Ended}
+use Rattle.tpl_model.specs.Coding.{final_number, final_at, final_at-number}
 
 -- what is left of a task's body, how it ended, and for how many tasks its list of exceptions has room
 pub record TaskRow : Type 0 where
@@ -86,8 +87,8 @@ ending_code =
     (λ p. record { place = p.0; actor = p.1.0; final = p.1.1.0; carried = p.1.1.1.0; winner = p.1.1.1.1 })
     (λ _. refl)
 
-abbrev pub plain_row_code : Coded TaskRow
-plain_row_code =
+abbrev pub row_code : Coded TaskRow
+row_code =
     code_by (Statements × (Option Outcome × (Option Ending × ℕ)))
     (coded× statements_code (coded× (coded_option outcome_code) (coded× (coded_option ending_code) coded_ℕ)))
     (λ x. (x.rest.left, (x.rest.outcome, (x.ending, x.room))))

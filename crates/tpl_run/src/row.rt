@@ -33,11 +33,11 @@ pub struct Row<'g> {
 
 impl<'g> Model for Row<'g> {
     ghost use Rattle.std.specs.Prelude.{vec_capacity};
-    ghost use Rattle.tpl_run.specs.Rows.{TaskRow, plain_row_code};
+    ghost use Rattle.tpl_run.specs.Rows.{TaskRow, row_code};
 
     ghost Value = { TaskRow };
 
-    ghost coded = { plain_row_code };
+    ghost coded = { row_code };
 
     ghost use Rattle.tpl_run.specs.Rows.{ending_of, AreKeptAtoms};
 
