@@ -1,9 +1,11 @@
 """The options and fixtures of the tests of this folder."""
 import functools
 import pathlib
+from collections.abc import Iterator
 
 import pytest
 
+from chromium import Browser, browser, why_not_there
 from harness import PROGRAM, RUNS, TOP, Program, built, shared_library
 
 pytest.register_assert_rewrite("pages")
@@ -50,3 +52,12 @@ def runs(pytestconfig) -> Program:
 def library(tmp_path_factory):
     """Builds a C file of this folder as a library that the program loads before the C library; gives its path."""
     return functools.cache(functools.partial(shared_library, tmp_path_factory.mktemp("libraries")))
+
+
+@pytest.fixture(scope="module")
+def chromium() -> Iterator[Browser]:
+    """The browser, installed if that can be."""
+    if why := why_not_there():
+        pytest.skip(why)
+    with browser() as opened:
+        yield opened

@@ -7,8 +7,10 @@ say what the commands answer:
 
     `analyse --depth 1` finds a certificate.
     `check` says `accepted`.
+    `verify` says: claim 1 holds, claim 2 fails.
 
-A certificate that is found has to be accepted by `check`.
+A certificate that is found has to be accepted by `check`. What `verify` says of claims is compared with all runs of the
+document too (every_run.py).
 """
 import functools
 import json
@@ -16,13 +18,22 @@ import os
 import pathlib
 import re
 import subprocess
+from collections.abc import Iterator
 from typing import NamedTuple
 
+from every_run import Truth
 from harness import LIMIT, TOP, Program
 
 FENCE = re.compile(r"^```(\w*)\n(.*?)^```\n", re.MULTILINE | re.DOTALL)
 SAYS = re.compile(r"`((?:check|analyse|run|audit)[^`]*)` (?:says `([^`]*)`|(finds a certificate))\.")
+# what is said of each claim, and of one
+VERDICTS = re.compile(r"`verify` says: (claim 1 (?:holds|fails)(?:, claim \d+ (?:holds|fails))*)\.$", re.MULTILINE)
 LINK = re.compile(r"\]\((?!https?:|#)([^)#]+)")
+# a link to a heading, of this page or of another one
+ANCHOR = re.compile(r"\]\((?!https?:)([^)#]*)#([^)]+)\)")
+HEADING = re.compile(r"^(#+) (.+)\n", re.MULTILINE)
+# the documents that a console block hands to `verify`
+HANDED = re.compile(r"^\$ \./taskgraph verify <<END\n(.*?)^END\n", re.MULTILINE | re.DOTALL)
 # words in capitals, what each of them stands for, and a claim's name behind its number
 PLACE = re.compile(r"[A-Z]{2,}|\b[NP]\b")
 WORD, NAMED = '[^ "]+', '(?: ".+")?'
@@ -44,6 +55,15 @@ class Block(NamedTuple):
     below: str
 
 
+class Section(NamedTuple):
+    """What stands below a heading, with the parts below it: its level, the heading, its anchor, and the text."""
+
+    level: int
+    head: str
+    anchor: str
+    text: str
+
+
 class Row(NamedTuple):
     """A line of docs/OUTPUT.md: the heading under which it stands, the lines that it stands for, and the exit status."""
 
@@ -62,6 +82,52 @@ def blocks(text: str):
     """The fenced blocks of a page."""
     for block in FENCE.finditer(text):
         yield Block(block.group(1), block.group(2), text[block.end() :].lstrip("\n").split("\n\n")[0])
+
+
+def anchor(head: str) -> str:
+    """What a link to a heading says of it: its letters, digits and hyphens, in lower case."""
+    return re.sub(r"[^\w -]", "", head.lower()).replace(" ", "-")
+
+
+def sections(text: str) -> list[Section]:
+    """The parts of a page, each with the parts below it."""
+    # (what looks like a heading inside of a fenced block is none)
+    plain = FENCE.sub(lambda block: " " * len(block.group()), text)
+    heads = [(len(head[1]), head[2], head.start(), head.end()) for head in HEADING.finditer(plain)]
+    found = []
+    for place, (level, head, _, begin) in enumerate(heads):
+        end = next((start for other, _, start, _ in heads[place + 1 :] if other <= level), len(text))
+        found.append(Section(level, head, anchor(head), text[begin:end]))
+    return found
+
+
+def is_asked(text: str) -> bool:
+    """A part of a page has a block that the tests run."""
+    return any(block.kind == "console" or says_what_is_answered(block) for block in blocks(text))
+
+
+def says_what_is_answered(block: Block) -> bool:
+    """Below the block, which has a document, stands what a command answers to it."""
+    return block.kind == "json" and bool(SAYS.search(block.below) or VERDICTS.search(block.below))
+
+
+def shown_documents(text: str) -> Iterator[dict]:
+    """The documents of a page: those of its json blocks of which an answer is told, and those that are handed to `verify`."""
+    for block in blocks(text):
+        if says_what_is_answered(block):
+            yield document(block.text)
+    yield from map(json.loads, HANDED.findall(text))
+
+
+def verdicts(program: Program, given: dict) -> list[str]:
+    """What `verify` says of each claim of a document."""
+    return [claim["verdict"] for claim in json.loads(program("verify", "--as", "json", given=json.dumps(given)).stdout)["claims"]]
+
+
+def true_verdicts(given: dict) -> list[str]:
+    """What is so of each claim in all runs of a document."""
+    truth = Truth(given)
+    return ["holds" if truth.holds(claim) else "fails" for claim in given["claims"]]
 
 
 def commands(block: str) -> list[tuple[str, str]]:

@@ -1,6 +1,7 @@
 """The files of docs/CI.md do what the page says, as far as a shell can: their steps are run one after another, as GitHub's
 runner and Azure's agent run them, in a folder with the program's archive and some documents. The calls of ready-made
-actions and tasks aren't run.
+actions and tasks aren't run. The steps that load the image call a script in place of podman, which answers as it does with
+the program itself.
 """
 import itertools
 import os
@@ -39,10 +40,30 @@ def steps_of(text: str):
             )
 
 
+def blocks_of_yaml(is_file: bool) -> list[str]:
+    """The files of the page, or the steps that stand alone, which are further in."""
+    return [block.text for block in pages.blocks(PAGE) if block.kind == "yaml" and block.text.startswith(" ") != is_file]
+
+
 def files() -> dict[str, list[str]]:
     """The steps of each file of the page that a shell runs."""
-    found = [block.text for block in pages.blocks(PAGE) if block.kind == "yaml"]
-    return {text.split("\n")[0]: list(steps_of(text)) for text in found}
+    return {text.split("\n")[0]: list(steps_of(text)) for text in blocks_of_yaml(is_file=True)}
+
+
+def with_container() -> list[tuple[str, str]]:
+    """Of each system, the step that loads the image, and the one that verifies."""
+    loads = [step for text in blocks_of_yaml(is_file=False) for step in steps_of(text)]
+    return list(zip(loads, (verify for _, verify in files().values()), strict=True))
+
+
+# what stands for podman: it takes the image's file, and runs the program with the words behind the image's name
+PODMAN = """#!/bin/sh
+case "$*" in
+  "load -i tools/{image}-oci.tar") test -f "$3" && echo "Loaded image: docker.io/library/taskgraph:{version}" ;;
+  "run -i --rm taskgraph:{version} "*) shift 4; exec {program} "$@" ;;
+  *) exit 125 ;;
+esac
+"""
 
 
 class Runner:
@@ -58,6 +79,17 @@ class Runner:
         (folder / "graphs").mkdir()
         for document, text in documents.items():
             (folder / "graphs" / f"{document}.json").write_text(text, encoding="utf-8")
+
+    def take_container(self, program: Program):
+        """The image's file stands in place of the archive, and podman is there."""
+        image = f"taskgraph-{VERSION}"
+        (archive,) = (self.folder / "tools").glob("*.tar.gz")
+        archive.rename(self.folder / "tools" / f"{image}-oci.tar")
+        podman = self.folder / "engine/podman"
+        podman.parent.mkdir()
+        podman.write_text(PODMAN.format(image=image, version=VERSION, program=program.path), encoding="utf-8")
+        podman.chmod(0o755)
+        self.paths.write_text(f"{podman.parent}\n", encoding="utf-8")
 
     def run(self, step: str) -> Answer:
         """Runs a step, with the folders that earlier ones named."""
@@ -81,8 +113,7 @@ class Runner:
         return {path.stem: path.read_text(encoding="utf-8").split("\n")[0] for path in (self.folder / "reports").glob("*.html")}
 
 
-@pytest.mark.parametrize("steps", files().values(), ids=files())
-@pytest.mark.parametrize(
+OF_DOCUMENTS = pytest.mark.parametrize(
     "documents, status, reports",
     [
         ({"one": HOLDS}, YES, {"one": (1, 0)}),
@@ -91,11 +122,30 @@ class Runner:
     ],
     ids=["all-hold", "one-fails", "one-is-no-document"],
 )
+
+
+@pytest.mark.parametrize("steps", files().values(), ids=files())
+@OF_DOCUMENTS
 def test_steps(bare_program, tmp_path: Path, steps: list[str], documents: dict[str, str], status: int, reports: dict):
     runner = Runner(bare_program, tmp_path, documents)
     unpack, verify = steps
     assert runner.run(unpack).exit == YES
-    answer = runner.run(verify)
+    check_verified(runner, runner.run(verify), documents, status, reports)
+
+
+@pytest.mark.parametrize("steps", with_container(), ids=files())
+@OF_DOCUMENTS
+def test_steps_with_the_container(bare_program, tmp_path: Path, steps, documents: dict[str, str], status: int, reports: dict):
+    runner = Runner(bare_program, tmp_path, documents)
+    runner.take_container(bare_program)
+    load, verify = steps
+    loaded = runner.run(load)
+    assert (loaded.exit, loaded.stdout.splitlines()[0]) == (YES, f"Loaded image: docker.io/library/taskgraph:{VERSION}")
+    check_verified(runner, runner.run(verify), documents, status, reports)
+
+
+def check_verified(runner: Runner, answer: Answer, documents: dict[str, str], status: int, reports: dict):
+    """The step that verifies ended so, named each document, and left these reports, with a page for a browser beside each."""
     assert answer.exit == status, answer
     assert all(f"graphs/{document}.json" in answer.stdout for document in documents)
     assert ("claim 1 fails" in answer.stdout) == (FAILS in documents.values())
@@ -122,3 +172,4 @@ def test_each(bare_program, tmp_path: Path):
 def test_archive_is_that_of_the_version(page: str):
     text = (TOP / page).read_text(encoding="utf-8")
     assert set(re.findall(r"taskgraph-(\S+?)-linux-x86_64", text)) == {VERSION}
+    assert set(re.findall(r"taskgraph(?:-|:)([0-9][0-9.]*[0-9])", text)) == {VERSION}

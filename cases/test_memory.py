@@ -2,9 +2,11 @@
 more: the answer is the same, or 'out of memory' with exit 4; or, where a run finds no thread for a worker, 'run: Spawn'
 with exit 5. refuse.c is what the program loads for that.
 
-So is each of `verify`, in each of its formats, for a document with a claim of each verdict.
+So is each of `verify`, in each of its formats, for a document with a claim of each verdict. As text, its answer is the same,
+or the lines of the first claims, as they stand in it, and then 'out of memory' with exit 4.
 """
 import json
+import re
 
 import pytest
 
@@ -57,6 +59,8 @@ VERDICTS = json.dumps(
 )
 NO_MEMORY = ("out of memory\n", 4)
 NO_THREAD = ("run: Spawn\n", 5)
+# the line of a claim, and those that belong to it
+CLAIM = re.compile(r"claim \d+ .*\n(?:  .*\n)*")
 
 
 def chosen() -> list[Case]:
@@ -76,6 +80,35 @@ def answered(program: Program, case: Case, refuse: str, **refusing: str) -> tupl
     return (answer.stdout, answer.exit), answer.stderr.rpartition("\n")[2]
 
 
+def broken_off(text: str) -> list[tuple[str, int]]:
+    """What `verify` may answer in place of this text: the lines of some of the first claims, and that memory is out."""
+    lines = CLAIM.findall(text)
+    return [("".join(lines[:count]) + "out of memory\n", 4) for count in range(len(lines) + 1)]
+
+
+def writes_as_it_comes(words: tuple[str, ...]) -> bool:
+    """With these words `verify` writes each claim's lines before the next verdict is found."""
+    return "--each" not in words and ("--as" not in words or words[words.index("--as") + 1] == "text")
+
+
+def allowed(case: Case, whole: tuple[str, int]) -> list[tuple[str, int]]:
+    """How the program may answer a case whose answer is this, where an allocation is refused."""
+    if case.command == "run":
+        return [whole, NO_MEMORY, NO_THREAD]
+    if case.command == "verify" and writes_as_it_comes(case.words):
+        return [whole, *broken_off(whole[0])]
+    return [whole, NO_MEMORY]
+
+
+def test_answers_that_break_off():
+    text = "claim 1 holds: x\nclaim 2 fails: y\n  w1 begin A\n  claim 2 fails here\nclaims 2, holds 1, fails 1, empty 0, unknown 0\n"
+    assert broken_off(text) == [
+        ("out of memory\n", 4),
+        ("claim 1 holds: x\nout of memory\n", 4),
+        ("claim 1 holds: x\nclaim 2 fails: y\n  w1 begin A\n  claim 2 fails here\nout of memory\n", 4),
+    ]
+
+
 def test_each_verdict(program):
     verdicts = [verdict for _, _, verdict, _ in words_of(program("verify", given=VERDICTS).stdout)]
     assert verdicts == ["holds", "fails", "empty", "unknown"]
@@ -85,9 +118,9 @@ def test_each_verdict(program):
 def test_each_refused_allocation(bare_program, library, case: Case):
     refuse = library("refuse.c")
     whole, asked = answered(bare_program, case, refuse)
-    allowed = [whole, NO_MEMORY, *([NO_THREAD] if case.command == "run" else [])]
+    answers = allowed(case, whole)
     for number in range(1, int(asked) + 1):
         alone = {"REFUSED": str(number)}
         for refusing in (alone, {**alone, "REFUSE_REST": "1"}):
             answer, _ = answered(bare_program, case, refuse, **refusing)
-            assert answer in allowed, f"allocation {number} of {asked} is refused, by {refusing}"
+            assert answer in answers, f"allocation {number} of {asked} is refused, by {refusing}"

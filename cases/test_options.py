@@ -20,6 +20,8 @@ WATCHED = 20
 PAUSE = 0.002
 # the most runs that may be asked for: the search goes on for longer than it is watched
 MOST_RUNS = "1000000"
+# how many tasks are tried of which one may never end, by docs/OUTPUT.md
+MOST_TRIED = 32
 INPUTS = [f"i{number}" for number in range(12)]
 # each run has 2 ** 12 possible starts, and the claim fails in each of them
 STARTS = {"version": 3, "inputs": INPUTS, "tasks": [{"name": "A", "kind": "root", "body": []}], "claims": [{"never": "A"}]}
@@ -122,15 +124,19 @@ def test_each_claim_is_searched(program, number: int):
     assert [verdict["verdict"] for verdict in said(program, document)] == ["holds"] * (number - 1) + ["fails"]
 
 
-def most_threads(program: Program, wanted: int, *words: str) -> int:
-    """The most threads that are seen of a program that searches 64 claims; once they are as many as wanted, for one second
+def searched(claims: int) -> str:
+    """A document with so many claims, each of which is searched for long."""
+    return json.dumps({"version": 3, "tasks": OPPOSITE, "claims": [EXCLUDES] * claims})
+
+
+def most_threads(program: Program, wanted: int, *words: str, given: str) -> int:
+    """The most threads that are seen of a program that searches what is given; once they are as many as wanted, for one second
     more."""
-    document = {"version": 3, "tasks": OPPOSITE, "claims": [EXCLUDES] * 64}
     command = [str(program.path), "verify", "--depth", "0", "--runs", MOST_RUNS, *words]
     with subprocess.Popen(command, stdin=subprocess.PIPE, stdout=subprocess.DEVNULL, stderr=subprocess.DEVNULL) as started:
         try:
             assert started.stdin
-            started.stdin.write(json.dumps(document).encode())
+            started.stdin.write(given.encode())
             started.stdin.close()
             most = watched(pathlib.Path(f"/proc/{started.pid}/task"), wanted)
             assert started.poll() is None
@@ -151,10 +157,43 @@ def watched(threads: pathlib.Path, wanted: int) -> int:
     return most
 
 
+def with_writer(jobs: int) -> int:
+    """How many threads there are where so many search and verdicts are written as they come."""
+    return jobs + 1 if jobs > 1 else jobs
+
+
 @pytest.mark.parametrize("jobs", [1, 2, 5])
 def test_as_many_threads_search_as_are_asked_for(bare_program, jobs: int):
-    assert most_threads(bare_program, jobs, "--jobs", str(jobs)) == jobs
+    assert most_threads(bare_program, jobs, "--jobs", str(jobs), "--as", "json", given=searched(64)) == jobs
+
+
+@pytest.mark.parametrize("jobs", [1, 2, 5])
+def test_one_thread_more_writes_what_the_others_find(bare_program, jobs: int):
+    assert most_threads(bare_program, with_writer(jobs), "--jobs", str(jobs), given=searched(64)) == with_writer(jobs)
+
+
+@pytest.mark.parametrize("jobs", [1, 2, 5])
+def test_as_many_threads_answer_lines_as_are_asked_for(bare_program, jobs: int):
+    lines = f"{searched(1)}\n" * 64
+    assert most_threads(bare_program, jobs, "--each", "--jobs", str(jobs), given=lines) == jobs
 
 
 def test_a_thread_for_each_processor_searches_where_no_number_is_given(bare_program):
-    assert most_threads(bare_program, PROCESSORS) == PROCESSORS
+    assert most_threads(bare_program, with_writer(PROCESSORS), given=searched(64)) == with_writer(PROCESSORS)
+
+
+def may_request(count: int) -> dict:
+    """So many tasks that may request a token, behind them one that always does, and a claim of which the token is given as
+    quiet."""
+    body = [{"if": "switch", "then": [{"cancel": "stop"}]}]
+    tasks = [{"name": f"May{number}", "kind": "root", "body": body} for number in range(count)]
+    tasks += [{"name": "Main", "kind": "root", "body": [{"cancel": "stop"}]}, {"name": "Probe", "kind": "root", "body": []}]
+    claim = {"given": [{"quiet": "stop"}], "runs": "Probe"}
+    return {"version": 3, "inputs": ["switch"], "tokens": ["stop"], "tasks": tasks, "claims": [claim]}
+
+
+@pytest.mark.parametrize("count, verdict", [(0, "empty"), (MOST_TRIED - 1, "empty"), (MOST_TRIED, "holds")])
+def test_as_many_tasks_are_tried_as_the_page_says(program, count: int, verdict: str):
+    """No complete run keeps what is given, which is missed where the task that shows it comes behind as many others."""
+    (told,) = said(program, may_request(count), "--runs", "0")
+    assert told["verdict"] == verdict

@@ -15,6 +15,7 @@ import pathlib
 import re
 import shutil
 import subprocess
+import tomllib
 from collections.abc import Sequence
 
 import pytest
@@ -38,7 +39,7 @@ FEW = 60
 LIBRARY = {"WaitAsync", "Release", "Delay", "Timeout"}
 LIMIT = 900
 # the types that stand in files of their own
-ELSEWHERE = {"Roslyn": "Roslyn.dll", "Orders": "Declared.exe", "Release": "Declared.exe"}
+ELSEWHERE = {"Roslyn": "Roslyn.dll", **dict.fromkeys(("Orders", "Release", "Gallery"), "Declared.exe")}
 FINALS = ("RanToCompletion", "Faulted", "Canceled")
 NEVER = [
     {"name": "Nothing_", "kind": "root", "body": []},
@@ -137,7 +138,7 @@ def reader(mono, tmp_path_factory) -> Reader:
     as_roslyn(folder / "Roslyn.dll")
     compile_csharp(folder / "Explore.exe", f"-r:{played}", CORPUS / "Explore.cs")
     library = sorted((TOP / "dotnet/src").glob("*.cs"))
-    samples = [TOP / f"dotnet/samples/{name}.cs" for name in ("Orders", "Release")]
+    samples = [TOP / f"dotnet/samples/{name}.cs" for name in ("Orders", "Release", "Gallery")]
     compile_csharp(folder / "Declared.exe", *library, *samples, CORPUS / "Declared.cs")
     return Reader(folder)
 
@@ -544,6 +545,25 @@ def test_pieces(reader, program):
     ] == []
 
 
+# jobs of the gallery of which its documents take it that they throw nothing
+SAFE_IN_GALLERY = "--safe=Prepare,Log,Close,Confirm,Dispose"
+
+
+def test_gallery(reader, program):
+    """Each bug of docs/GALLERY.md is found in its compiled code, and isn't in the repaired one: of claims about both it was said
+    before whether they hold of what is read."""
+    bugs = tomllib.loads((TOP / "cases/verdicts/gallery.toml").read_text(encoding="utf-8"))["bug"]
+    read = reader.read("Gallery", SAFE_IN_GALLERY)
+    for bug, which in itertools.product(bugs, ("wrong", "repaired")):
+        found = read[bug[which]]
+        if which == "wrong" and "refused" in bug:
+            assert found["refused"] == bug["refused"]
+            continue
+        claims = [said["claim"] for said in bug["read"]]
+        (told,) = verdicts(program, [{**found["document"], "claims": claims}], "--runs", "20000", "--depth", "3")
+        assert told == [said[which] for said in bug["read"]], bug[which]
+
+
 def planted(file: pathlib.Path) -> dict:
     """A planted mistake: what it is, the tests that find it, the file, and the lines that it replaces and puts in."""
     told: dict = {"old": [], "new": []}
@@ -651,6 +671,15 @@ def test_command_writes_a_document(command, program):
     assert program("draw", given=answer.stdout).exit == 0
     plain = json.loads(command("Release.dll", "Release.Start", "--no-notes").stdout)
     assert "note" not in plain and not any("note" in task for task in plain["tasks"])
+
+
+def test_lines_of_the_first_page(command):
+    """Each line of README.md that calls the command writes a document."""
+    lines = re.findall(r"`taskgraph-csharp ([^`]+)`", (TOP / "README.md").read_text(encoding="utf-8"))
+    assert lines
+    for line in lines:
+        words, _, file = line.partition(" > ")
+        assert file.endswith(".json") and json.loads(command(*words.split()).stdout)["tasks"], line
 
 
 def test_command_says_what_is_wrong(command):

@@ -1,4 +1,4 @@
-"""schema/taskgraph.schema.json and the program agree on the documents of this folder and of examples/.
+"""schema/taskgraph.schema.json and the program agree on the documents of this folder, of examples/ and of the pages.
 
 A document that `check` reads has to be valid. One that it answers with `unreadable: shape` has to be invalid, but for the
 cases of UNSEEN: what the schema can't say. The validator is Debian's python3-jsonschema, which is installed if it is
@@ -11,7 +11,8 @@ import sys
 import pytest
 
 import debian
-from harness import TOP, all_cases, examples
+import pages
+from harness import TOP, all_cases, examples, slug
 
 # shapes that are wrong and that no schema sees: JSON numbers have no notation, the last of two members counts, a text's
 # length is that of its characters, and no number is compared with another
@@ -60,6 +61,10 @@ def documents():
             yield pytest.param(case.name, case.stdin, id=str(case))
     for file in examples():
         yield pytest.param(file.name, file.read_bytes(), id=file.stem)
+    for page in pages.pages():
+        for number, document in enumerate(pages.shown_documents(page.read_text(encoding="utf-8")), 1):
+            name = f"{page.relative_to(TOP)} {number}"
+            yield pytest.param(name, json.dumps(document).encode(), id=slug(name))
 
 
 def value(text: bytes):

@@ -164,6 +164,24 @@ def test_snippets_stand_behind_the_version():
     assert pages.document('{"version": 1}') == {"version": 1}
 
 
+def test_pages_are_read_part_by_part():
+    text = "# One\n\nfirst\n\n## A `b`, c..d\n\n```console\n# no heading\n$ a\n```\n\n### E\n\nlast\n\n## F\n"
+    found = pages.sections(text)
+    assert [(section.level, section.anchor) for section in found] == [(1, "one"), (2, "a-b-cd"), (3, "e"), (2, "f")]
+    assert [pages.is_asked(section.text) for section in found] == [True, True, False, False]
+    assert found[2].text == "\nlast\n\n"
+    assert pages.ANCHOR.findall("[a](#b), [c](d.md#e), [f](g.md), [h](https://i#j)") == [("", "b"), ("d.md", "e")]
+
+
+def test_verdicts_of_a_page_are_read():
+    said = "`verify` says: claim 1 holds, claim 2 fails."
+    assert pages.VERDICTS.findall(said) == ["claim 1 holds, claim 2 fails"]
+    assert pages.VERDICTS.findall(said.replace("fails", "found")) == pages.VERDICTS.findall(said.replace("1", "2")) == []
+    # (a claim that is true of its one task, and one that isn't)
+    given = pages.document('"tasks": [{"name": "A", "kind": "root", "body": []}], "claims": [{"runs": "A"}, {"never": "A"}]')
+    assert pages.true_verdicts(given) == ["holds", "fails"]
+
+
 def test_lines_of_the_output_page_stand_for_others():
     lines = [("claim N fails at P", 1), ("TREES", 0), ("run complete", 0), ("task NAME STATUS", 0), ("claim N empty: WORDS", 1)]
     known = pages.rows("".join(f"| `{line}` | {status} | x |\n" for line, status in lines))

@@ -14,8 +14,7 @@ import sys
 
 import pytest
 
-import debian
-from chromium import DRIVER, PACKAGES, WIDE, Browser, browser, is_there
+from chromium import WIDE, Browser
 from documents import LONGEST
 from harness import TOP, Answer, Program, failing_runs, whole_run
 from test_verify import worked_out
@@ -24,7 +23,7 @@ sys.path.insert(0, str(TOP / "page"))
 import parts  # noqa: E402
 
 # a page without its data, in bytes
-MOST_BYTES = 90_000
+MOST_BYTES = 97_000
 # the status that `draw` names for what the page says of a task
 STATUS = {
     "not started": "Created",
@@ -73,17 +72,6 @@ WRONG_RULES = {
 }
 TASKS, SECONDS = 1024, 2.0
 FEW_RUNS = ("--runs", "300")
-
-
-@pytest.fixture(scope="module")
-def chromium():
-    """The browser, installed if that can be."""
-    if not is_there():
-        debian.install(*PACKAGES)
-    if not is_there():
-        pytest.skip(f"there is no {DRIVER}: Debian has what is needed as {', '.join(PACKAGES)}")
-    with browser() as opened:
-        yield opened
 
 
 @pytest.fixture(scope="module")

@@ -5,7 +5,8 @@ by chance the verdicts agree with `analyse`, `check`, `refute` and `audit`, clai
 bytes for every number of jobs. The JSON is valid by schema/verify.schema.json and the JUnit by verdicts/junit.xsd, both
 say what the text says, and each run that is given is one in which the claim fails.
 
-no_threads.c is what the program loads where it is to make no thread.
+As text, the lines for a claim can be read before the next one has its verdict. no_threads.c is what the program loads where
+it is to make no thread.
 
 The validators are Debian's python3-jsonschema and python3-lxml, which are installed where that can be done. Without the
 first nothing is tested of the schema, and that has failed; without the second that test is skipped.
@@ -14,6 +15,7 @@ import importlib
 import json
 import random
 import re
+import subprocess
 import sys
 import tomllib
 import xml.etree.ElementTree
@@ -48,6 +50,27 @@ REASONS = {
 }
 # how many causes the text tells at most
 MOST_TOLD = 20
+# A requests B's token before it ends, so B never begins; but no certificate shows it, and no run refutes it. So all runs are
+# made for the last claim, which take ten seconds and more.
+SLOW = json.dumps(
+    {
+        "version": 1,
+        "tokens": ["t"],
+        "tasks": [
+            {"name": "A", "kind": "root", "body": [{"cancel": "t"}]},
+            {"name": "B", "kind": "then", "after": "A", "token": "t", "body": []},
+        ],
+        "claims": [{"final": "A", "in": ["RanToCompletion"]}, {"never": "A"}, {"never": "B"}],
+    }
+)
+MOST_RUNS = "1000000"
+# what is written of the claims of that document before the last one has its verdict
+SOON = [
+    "claim 1 holds: A ends RanToCompletion\n",
+    "claim 2 fails: A never begins\n",
+    "  w1 begin A\n",
+    "  claim 2 fails here\n",
+]
 # the verdicts that are a failure for a reporter of tests
 FAILURES = ("fails", "empty", "unknown")
 
@@ -258,6 +281,20 @@ def chain(claims: int) -> str:
     links = [{"name": f"T{number}", "kind": "then", "after": f"T{number - 1}", "body": []} for number in range(1, CHAIN)]
     after = [{"after": [f"T{number}", f"T{number + 1}"]} for number in range(claims)]
     return json.dumps({"version": 3, "tasks": [{"name": "T0", "kind": "root", "body": []}, *links], "claims": after})
+
+
+@pytest.mark.parametrize("jobs", JOBS)
+def test_verdicts_come_one_by_one(bare_program, jobs: str):
+    words = [bare_program.path, "verify", "--jobs", jobs, "--runs", MOST_RUNS]
+    with subprocess.Popen(words, stdin=subprocess.PIPE, stdout=subprocess.PIPE, text=True) as started:
+        assert started.stdin and started.stdout
+        started.stdin.write(SLOW)
+        started.stdin.close()
+        lines = [started.stdout.readline() for _ in SOON]
+        is_over = started.poll() is not None
+        started.kill()
+    assert lines == SOON
+    assert not is_over, "the last claim has its verdict before the others are read"
 
 
 def test_many_claims(bare_program):

@@ -17,9 +17,10 @@ const claimOf = (number) => claims[number - 1] || null;
 const verdictOf = (number) => verdicts[number - 1] || null;
 const chosenSubject = () => (claimOf(now.claim) ? subjectOf(claimOf(now.claim)) : NO_SUBJECT);
 
-// The run of a claim that fails, played once.
+// The run of a claim that fails, played once; or the one that was recorded.
 const runs = new Map();
 function runOf(number) {
+  if (audit) return recordedRun;
   if (!runs.has(number)) {
     const run = verdictOf(number)?.run;
     runs.set(number, run ? new Run(run) : null);
@@ -31,11 +32,11 @@ const chosenRun = () => runOf(now.claim);
 const chosenCauses = () => verdictOf(now.claim)?.causes || [];
 const causingEvents = () => chosenCauses().map(({ event }) => event);
 
-// Chooses a claim, at the end of its run.
+// Chooses a claim, at the end of its run, or where it fails in the recorded one.
 function chooseClaim(number) {
   Object.assign(now, { claim: number, task: -1, group: null });
   graph.opened.clear();
-  now.step = chosenRun()?.events.length ?? 0;
+  now.step = endOf(number);
   showAll();
 }
 

@@ -7,10 +7,11 @@ function listClaims() {
   const ordered = [...verdicts].sort((one, other) => worst(one) - worst(other) || one.claim - other.claim);
   for (const verdict of ordered) entries.push(claimEntry(verdict));
   byId("claims").append(...entries.map(({ element }) => element));
-  byId("sums").append(...VERDICTS.map(sumButton));
-  const meter = VERDICTS.filter((word) => given.verdicts.sums[word]).map(meterPart);
+  const counted = VERDICTS.filter((word) => sums[word] !== undefined);
+  byId("sums").append(...counted.map(sumButton));
+  const meter = counted.filter((word) => sums[word]).map(meterPart);
   byId("meter").append(...meter);
-  byId("meter").setAttribute("aria-label", VERDICTS.map((word) => `${given.verdicts.sums[word]} ${word}`).join(", "));
+  byId("meter").setAttribute("aria-label", counted.map((word) => `${sums[word]} ${word}`).join(", "));
 }
 
 function claimEntry({ claim, name, text, verdict }) {
@@ -23,7 +24,7 @@ function claimEntry({ claim, name, text, verdict }) {
 
 // How many claims have a verdict; pressed, only those are listed.
 function sumButton(word) {
-  const sum = given.verdicts.sums[word];
+  const sum = sums[word];
   const press = () => {
     now.verdict = now.verdict === word ? "" : word;
     sift();
@@ -34,7 +35,7 @@ function sumButton(word) {
 
 function meterPart(word) {
   const part = html("span", { class: word });
-  part.style.flexGrow = given.verdicts.sums[word];
+  part.style.flexGrow = sums[word];
   return part;
 }
 

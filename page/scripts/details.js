@@ -6,7 +6,10 @@ const FOLDED_STEPS = 4;
 function showDetails() {
   const [verdict, claim, run] = [verdictOf(now.claim), claimOf(now.claim), chosenRun()];
   const parts = verdict ? [verdictElements(verdict, claim), reasonElements(verdict)] : [html("p", {}, WORDS.noClaims)];
-  if (run) parts.push(failureElements(claim, run), inputElements(verdict.run), eventElements(run));
+  const failing = runToFailure(now.claim);
+  if (failing) parts.push(failureElements(claim, failing));
+  if (audit) parts.push(recordElements());
+  if (run) parts.push(inputElements(run), eventElements(run));
   byId("details").replaceChildren(...parts.flat(Infinity).filter(Boolean));
   showTask();
 }
@@ -17,7 +20,7 @@ function verdictElements({ verdict, name, text }, claim) {
     name !== undefined && html("h2", { dir: "auto" }, shown(name)),
     html("p", { class: name === undefined ? "says lead" : "says" }, withTasks(text)),
     claim.note !== undefined && html("p", { class: "note", dir: "auto" }, shown(claim.note)),
-    html("p", { class: "tells" }, VERDICT_WORDS[verdict]),
+    html("p", { class: "tells" }, audit ? AUDIT_WORDS[verdict]() : VERDICT_WORDS[verdict]),
   ];
 }
 
@@ -31,7 +34,7 @@ function saidLines(number) {
 
 // Why a claim holds, says nothing, or isn't known.
 function reasonElements({ claim: number, verdict, splits }) {
-  const isToldByLines = verdict === "empty" || verdict === "unknown";
+  const isToldByLines = !audit && (verdict === "empty" || verdict === "unknown");
   return [
     isToldByLines && saidLines(number).map((line) => html("p", {}, withTasks(line.trim()))),
     splits !== undefined && html("p", { class: "tells" }, SPLITS_WORDS(splits)),
@@ -40,7 +43,8 @@ function reasonElements({ claim: number, verdict, splits }) {
 
 function failureElements(claim, run) {
   const wrong = [html("h3", {}, WORDS.wrong), html("p", {}, sentenceElements(failureOf(claim, run)))];
-  return [...wrong, html("h3", {}, WORDS.causes), chainElement(run, chosenCauses())];
+  const causes = chosenCauses();
+  return causes.length ? [...wrong, html("h3", {}, WORDS.causes), chainElement(run, causes)] : wrong;
 }
 
 // A chain of causes. Where it begins with many tasks that ran, those can be unfolded.
@@ -64,13 +68,15 @@ function causeElement({ event, says }, isPlain) {
 }
 
 function inputElements({ inputs }) {
-  const values = Object.entries(inputs || {}).map(([name, value]) => html("span", { class: "input" }, WORDS.input(name, value)));
+  const values = [...inputs].map(([name, value]) => html("span", { class: "input" }, WORDS.input(name, value)));
   return values.length ? [html("h3", {}, WORDS.inputs), html("p", {}, values)] : [];
 }
 
 function eventElements(run) {
-  const end = html("li", { class: "fails" }, icon("fails"), WORDS.claimFailsHere(now.claim));
-  const list = html("ol", { class: "events", id: "events" }, run.events.map(eventElement), end);
+  const items = run.events.map(eventElement);
+  const fails = () => html("li", { class: "fails" }, icon("fails"), WORDS.claimFailsHere(failingClaim()));
+  if (failsAt(run) !== undefined) items.splice(failsAt(run), 0, fails());
+  const list = html("ol", { class: "events", id: "events" }, items);
   return [html("h3", {}, WORDS.events), list, copyButton(run.journal)];
 }
 

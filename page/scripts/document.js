@@ -1,10 +1,13 @@
-// The document and the verdicts that the page shows, and what is read off the graph. Names are looked up in maps, since a task
+// The document that the page shows, what was found of it, and what is read off the graph. Names are looked up in maps, since a task
 // may be called __proto__.
 
 const given = JSON.parse(document.getElementById("data").textContent);
 const tasks = given.document.tasks;
 const claims = given.document.claims || [];
-const verdicts = given.verdicts.claims;
+// of a recorded run what the audit found, else null; and what is said of each claim
+const audit = given.audit || null;
+const verdicts = audit ? auditedClaims() : given.verdicts.claims;
+const sums = audit ? countedClaims() : given.verdicts.sums;
 const tokens = (given.document.tokens || []).map((token) => (typeof token === "string" ? { name: token, linked: [] } : token));
 const idOf = new Map(tasks.map((task, id) => [task.name, id]));
 const tokenOf = new Map(tokens.map((token) => [token.name, token]));

@@ -32,6 +32,7 @@ const SIGNS = {
   waits: "M3 1.5V10.5M9 1.5V10.5",
   created: "M2 6H3M5.5 6H6.5M9 6H10",
   holds: CHECK,
+  kept: CHECK,
   fails: CROSS,
   unknown: "M3.5 4A2.6 2.6 0 1 1 7 6.2C6.2 6.6 6 7 6 8M6 10V10.6",
   empty: `${CIRCLE}M3.5 6H8.5`,

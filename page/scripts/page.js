@@ -58,6 +58,7 @@ const CONTROLS = {
     graph.opened.clear();
     showAll();
   },
+  clock: turnClock,
   "lanes-closer": () => zoomLanes(1.5),
   "lanes-wider": () => zoomLanes(1 / 1.5),
   theme: turnTheme,
@@ -116,9 +117,8 @@ function followAddress() {
   const asked = new URLSearchParams(location.hash.slice(1));
   const number = Number(asked.get("claim"));
   const entry = entries.find((other) => other.number === number) || entries[0];
-  if (!entry) return showAll();
-  chooseClaim(entry.number);
-  if (asked.has("step") && entry.number === number) goTo(Number(asked.get("step")) || 0);
+  chooseClaim(entry?.number ?? 0);
+  if (asked.has("step") && now.claim === number) goTo(Number(asked.get("step")) || 0);
 }
 
 function connect() {
@@ -144,12 +144,14 @@ function connect() {
 }
 
 function writeHead() {
-  const sums = VERDICTS.filter((word) => given.verdicts.sums[word]).map((word) => `${given.verdicts.sums[word]} ${word}`);
-  document.title = `${sums.join(", ") || WORDS.noClaim} · taskgraph`;
-  byId("title").textContent = WORDS.title;
+  const counts = VERDICTS.filter((word) => sums[word]).map((word) => `${sums[word]} ${word}`);
+  const said = audit ? byId("text").textContent.trim().split("\n") : counts;
+  document.title = `${said.join(", ") || WORDS.noClaim} · taskgraph`;
+  byId("title").textContent = audit ? WORDS.recorded : WORDS.title;
   byId("size").textContent = WORDS.size();
   byId("about").textContent = given.document.note === undefined ? "" : shown(given.document.note);
   byId("tokens").hidden = !tokens.length;
+  byId("clock").hidden = !times;
   byId("legend").append(...WORDS.legend.map((word) => html("span", {}, icon(word), ` ${word}`)));
   for (const id of ["first", "previous", "next", "last"]) byId(id).append(icon(id));
 }

@@ -3,7 +3,7 @@
 const MOST_PRINTED = 24;
 
 function printedElement(number) {
-  Object.assign(now, { claim: number, step: runOf(number).events.length, task: -1, group: null });
+  Object.assign(now, { claim: number, step: endOf(number), task: -1, group: null });
   buildGraph();
   paintGraph();
   const picture = byId("canvas").cloneNode(true);
@@ -13,8 +13,8 @@ function printedElement(number) {
   picture.firstElementChild.removeAttribute("transform");
   picture.firstElementChild.removeAttribute("id");
   const verdict = verdictOf(number);
-  const [claim, run] = [claimOf(number), runOf(number)];
-  const said = [verdictElements(verdict, claim), failureElements(claim, run), inputElements(verdict.run)];
+  const [claim, run] = [claimOf(number), runToFailure(number)];
+  const said = [verdictElements(verdict, claim), failureElements(claim, run), inputElements(run)];
   const section = html("section", {}, said, picture);
   for (const folded of section.querySelectorAll("details")) folded.open = true;
   return section;

@@ -83,12 +83,21 @@ const FAILURES = {
 };
 
 // The verdicts, the worst first.
-const VERDICTS = ["fails", "unknown", "empty", "holds"];
+const VERDICTS = ["fails", "unknown", "empty", "holds", "kept"];
 const VERDICT_WORDS = {
   fails: "It fails: here is a run in which it does.",
   unknown: "Neither a certificate nor a run in which it fails was found. It may hold or fail.",
   empty: "It holds, but says nothing.",
   holds: "It holds in every run: a certificate was found, and the proved check accepts it.",
+};
+// What the audit of a recorded run says of a claim.
+const AUDIT_WORDS = {
+  fails: () => "It fails in this run, and no claim fails earlier.",
+  unknown: () => "The journal is no run, so nothing is said of the claim.",
+  kept: () =>
+    audit.fails
+      ? `It holds up to where claim ${audit.fails.claim} fails. What comes after that wasn't looked at.`
+      : "It holds after each event of this run.",
 };
 const SPLITS_WORDS = (splits) =>
   splits ? `The certificate has at most ${counted(splits, "split")} on a path.` : "The certificate has one case.";
@@ -132,6 +141,16 @@ const PLAIN_STATEMENTS = { observe: "read the exception of what it continues", r
 
 const WORDS = {
   title: "Claims and their verdicts",
+  recorded: "A recorded run",
+  run: "The run",
+  complete: (isComplete) => (isComplete ? "The run is complete." : "The run is not complete: some task has yet to end."),
+  notAllowed: (place) => `Event ${place} isn't allowed after those before it:`,
+  otherEnd: "The document says of {task}: {said}. The journal says: {status}.",
+  ends: "How the tasks ended",
+  endsBefore: "How the tasks stand before it",
+  names: "their names",
+  at: (time) => `, at ${time}`,
+  time: "time",
   noClaims: "The document has no claims, so nothing was asked.",
   noClaim: "no claim",
   claim: (number, verdict) => ` claim ${number} ${verdict}`,

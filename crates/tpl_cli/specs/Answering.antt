@@ -15,8 +15,10 @@ use Rattle.tpl_report.specs.Running.{ServesRun}
 use Rattle.tpl_report.specs.Telling.{IsToldOf}
 use Rattle.tpl_report.specs.declared.telling.Telling.{Telling}
 use Rattle.tpl_report.specs.declared.telling.Telling.TheVariants.{Report, Whole}
+use Rattle.tpl_shown.specs.Answer.{AuditShown, ShowsAudit}
 use Rattle.tpl_trace.specs.Answer.{Traced, Traces}
 use Rattle.tpl_verdicts.specs.Answer.{Judged, Verified, Verifies}
+use Rattle.tpl_verdicts.specs.Streaming.{Streams}
 use Rattle.tpl_verdicts.specs.declared.style.Style.{Style}
 use Rattle.tpl_verify.specs.Serving.{Refuted, ShowsFailure, Unrefuted}
 use Rattle.tpl_verify.specs.Witness.{Searches}
@@ -62,7 +64,7 @@ pub record RefutesDocument {R W : Type 0} (claim : Option ℕ) (remaining : R �
 
 -- what `verify` does with one document, by certificates with at most so many splits, in this style
 pub record VerifiesDocument {R W : Type 0} (depth : ℕ) (style : Style) (remaining : R → Option (List ℕ)) (from_old from_new : Counting R) (contents : W → Option (List ℕ)) (to_old to_new : Counting W) (result : Exit) : Type 0 where
-  pub responds : Responds (Verifies depth style) remaining from_old from_new contents to_old to_new result
+  pub streams : Streams remaining from_old from_new contents to_old to_new depth style result
   pub reads : calls_of from_new ≤ calls_of from_old + (longest + 2)
   pub judged : (result ≡ Success) ⊎ (result ≡ Failure)
       → Judged remaining from_old from_new contents to_old to_new style result
@@ -82,6 +84,13 @@ pub record TracesDocument {R W : Type 0} (remaining : R → Option (List ℕ)) (
   pub reads : calls_of from_new ≤ calls_of from_old + (longest + 2)
   pub traced : result ≡ Success → Traced remaining from_old from_new contents to_old to_new
 
+-- what `audit --as html` does
+pub record AuditsAsPage {R W : Type 0} (remaining : R → Option (List ℕ)) (from_old from_new : Counting R) (contents : W → Option (List ℕ)) (to_old to_new : Counting W) (result : Exit) : Type 0 where
+  pub responds : Responds ShowsAudit remaining from_old from_new contents to_old to_new result
+  pub reads : calls_of from_new ≤ calls_of from_old + (longest + 2)
+  pub shown : (result ≡ Success) ⊎ (result ≡ Failure)
+      → AuditShown remaining from_old from_new contents to_old to_new result
+
 -- how the program ends, what it read and what it wrote, where this line is named
 abbrev pub Does : {R W : Type 0} → Line → (R → Option (List ℕ)) → Counting R → Counting R → (W → Option (List ℕ)) → Counting W → Counting W → Exit → Type 0
 Does (line.Serve ask) remaining from_old from_new contents to_old to_new result =
@@ -96,3 +105,5 @@ Does (line.Verify depth tries jobs style is_each) remaining from_old from_new co
     VerifiesAs is_each depth style remaining from_old from_new contents to_old to_new result
 Does line.Trace remaining from_old from_new contents to_old to_new result =
     TracesDocument remaining from_old from_new contents to_old to_new result
+Does line.AuditPage remaining from_old from_new contents to_old to_new result =
+    AuditsAsPage remaining from_old from_new contents to_old to_new result

@@ -7,6 +7,7 @@ use Rattle.tpl_commands.specs.declared.ask.Ask.{Ask}
 use Rattle.tpl_commands.specs.declared.ask.Ask.TheVariants.{Check, Analyse, AnalyseIn, Certify, Audit, Draw}
 use Rattle.tpl_each.specs.declared.slot.TheConstants.{MOST_JOBS}
 use Rattle.tpl_model.specs.declared.limits.TheConstants.{MOST_WORKERS}
+use Rattle.tpl_verdicts.specs.declared.style.Style.TheVariants as style
 use Rattle.tpl_cli.specs.declared.line.Line as lines
 use Rattle.tpl_cli.specs.declared.line.Line.TheVariants as line
 use Rattle.tpl_cli.specs.declared.line.Tries.{Tries}
@@ -30,7 +31,7 @@ Asks word rows Check = word ≡ codes "check"
 Asks word rows (Analyse depth) = IsSearch word rows depth Full × (IsSet (codes "whole") rows → ⊥)
 Asks word rows (AnalyseIn depth form) = IsSearch word rows depth form × (form ≡ Full → ⊥) × (IsSet (codes "whole") rows → ⊥)
 Asks word rows (Certify depth form) = IsSearch word rows depth form × IsSet (codes "whole") rows
-Asks word rows Audit = word ≡ codes "audit"
+Asks word rows Audit = (word ≡ codes "audit") × IsStyle rows style.Text
 Asks word rows (Draw language) = (word ≡ codes "draw") × IsLanguage rows language
 
 -- one document is answered, and no number of threads is given
@@ -53,10 +54,11 @@ Means word rows (line.Run workers is_whole) =
     (word ≡ codes "run") × IsGiven number.Workers rows workers × IsFlag (codes "whole") rows is_whole
 Means word rows (line.Refute claim tries explains) =
     (word ≡ codes "refute") × IsIfGiven number.Claim rows claim × AreTries rows tries × IsFlag (codes "explain") rows explains
-Means word rows (line.Verify depth tries jobs style is_each) =
+Means word rows (line.Verify depth tries jobs how is_each) =
     (word ≡ codes "verify") × IsGiven number.Depth rows depth × AreTries rows tries
-    × IsIfGiven number.Jobs rows jobs × IsStyle rows style × IsFlag (codes "each") rows is_each
+    × IsIfGiven number.Jobs rows jobs × IsStyle rows how × IsFlag (codes "each") rows is_each
 Means word rows line.Trace = word ≡ codes "trace"
+Means word rows line.AuditPage = (word ≡ codes "audit") × IsStyle rows style.Html × IsAlone rows
 
 -- a subcommand was entered with options for which this line is meant
 abbrev pub IsLineOf : Option (Text × List Row) → lines.Line → Type 0
@@ -75,5 +77,5 @@ AreThreads (Some jobs) = (1 ≤ jobs) × (jobs ≤ MOST_JOBS)
 abbrev pub IsWithin : lines.Line → Type 0
 IsWithin (line.Each ask jobs) = AreThreads jobs
 IsWithin (line.Run workers is_whole) = (1 ≤ workers) × (workers ≤ MOST_WORKERS)
-IsWithin (line.Verify depth tries jobs style is_each) = AreThreads jobs
+IsWithin (line.Verify depth tries jobs how is_each) = AreThreads jobs
 IsWithin l = Unit {0}

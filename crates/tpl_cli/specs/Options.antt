@@ -69,6 +69,7 @@ rule_for (options.Number option) = numbered option (usual option)
 rule_for options.Deepest = numbered Depth (deepest ∷ [])
 rule_for options.Language = named (language_word Mermaid)
 rule_for options.Style = named (style_word style.Text)
+rule_for options.AuditStyle = named (style_word style.Text)
 
 -- the option was used
 abbrev pub IsSet : Text → List Row → Type 0

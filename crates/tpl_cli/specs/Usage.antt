@@ -4,7 +4,7 @@ use Rattle.clap.specs.Words.{App, Text, new_app, with_subcommand}
 use Rattle.clap.specs.Simple.{on_top}
 use Rattle.tpl_cli.specs.declared.number.Number.TheVariants.{Depth, Workers, Claim, Runs, Seed, Jobs}
 use Rattle.tpl_cli.specs.declared.options.CommandOption.{CommandOption}
-use Rattle.tpl_cli.specs.declared.options.CommandOption.TheVariants.{Flag, Number, Deepest, Language, Style}
+use Rattle.tpl_cli.specs.declared.options.CommandOption.TheVariants.{Flag, Number, Deepest, Language, Style, AuditStyle}
 use Rattle.tpl_cli.specs.declared.options.Flag.TheVariants.{Slim, Rows, WithCertificate, WithRun, Each, Explain}
 use Rattle.tpl_cli.specs.declared.usage.Subcommand.{Subcommand}
 use Rattle.tpl_cli.specs.declared.usage.Subcommand.TheVariants.{Check, Analyse, Run, Audit, Refute, Verify, Draw, Trace}
@@ -19,7 +19,7 @@ abbrev pub words_of : Subcommand → Text × List CommandOption
 words_of Check = (codes "check", Flag Each ∷ Number Jobs ∷ [])
 words_of Analyse = (codes "analyse", Number Depth ∷ Flag Slim ∷ Flag Rows ∷ Flag WithCertificate ∷ [])
 words_of Run = (codes "run", Number Workers ∷ Flag WithRun ∷ [])
-words_of Audit = (codes "audit", Flag Each ∷ Number Jobs ∷ [])
+words_of Audit = (codes "audit", AuditStyle ∷ Flag Each ∷ Number Jobs ∷ [])
 words_of Refute = (codes "refute", Number Claim ∷ tries)
 words_of Verify = (codes "verify", Deepest ∷ tries ++ Number Jobs ∷ Style ∷ Flag Each ∷ [])
 words_of Draw = (codes "draw", Language ∷ [])

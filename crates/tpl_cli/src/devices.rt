@@ -19,6 +19,11 @@ impl<T> Noting<T> {
         Noting { inner, error: None }
     }
 
+    /// The reader or writer itself.
+    pub(crate) fn inner(&self) -> &T {
+        &self.inner
+    }
+
     /// The last error, if there was one.
     pub(crate) fn error(&self) -> Option<Error> {
         self.error

@@ -2,7 +2,7 @@
 
 ghost use Rattle.std.specs.Prelude.{◌≡◌, true, codes, IfOk, MatchResult, map};
 ghost use Rattle.clap.specs.Words.{Text, found_of, kind_of, rows_of, subcommand_rows_of, takes};
-ghost use Rattle.tpl_cli.specs.Prelude.{AreTries, Asks, Finds, IsForm, IsLineOf, IsWithin, Means, Names, taskgraph};
+ghost use Rattle.tpl_cli.specs.Prelude.{AreTries, Asks, Finds, IsAlone, IsForm, IsLineOf, IsWithin, Means, Names, taskgraph};
 
 use crate::number::Number;
 use crate::options::{depth_in, is_set, named_in, number_if_given, number_in};
@@ -63,6 +63,8 @@ pub enum Line {
     },
     /// Write the journal of a document for a trace viewer.
     Trace,
+    /// Audit the journal of a document, and write that as a page for a browser.
+    AuditPage,
 }
 
 /// Why there is nothing to do.
@@ -205,6 +207,33 @@ fn verify_line(given: &ArgMatches<'_>) -> Option<Line>
     })
 }
 
+/// The line for the page of an audit, of one document alone.
+fn page_line(given: &ArgMatches<'_>) -> Option<Line>
+    ensures { Finds (λ line. (line ≡ Line.AuditPage) × IsAlone (rows_of (found_of given.now)))
+        result }
+{
+    let jobs = number_if_given(given, Number::Jobs)?;
+    if is_set(given, "each") {
+        return None;
+    }
+    match jobs {
+        None => Some(Line::AuditPage),
+        Some(_) => None,
+    }
+}
+
+/// The line that `audit` means with these options.
+fn audit_line(given: &ArgMatches<'_>) -> Option<Line>
+    ensures { Finds (Means (codes "audit") (rows_of (found_of given.now))) result }
+{
+    let style = named_in(given)?;
+    match style {
+        Style::Text => served(given, Ask::Audit),
+        Style::Html => page_line(given),
+        Style::Json | Style::Junit => None,
+    }
+}
+
 /// The line that the subcommand of this name means with these options.
 fn line_meant(word: &str, given: &ArgMatches<'_>) -> Option<Line>
     ensures { Finds (Means word.now (rows_of (found_of given.now))) result }
@@ -213,7 +242,7 @@ fn line_meant(word: &str, given: &ArgMatches<'_>) -> Option<Line>
         "check" => served(given, Ask::Check),
         "analyse" => served(given, search_asked(given)?),
         "run" => run_line(given),
-        "audit" => served(given, Ask::Audit),
+        "audit" => audit_line(given),
         "refute" => refute_line(given),
         "verify" => verify_line(given),
         "draw" => served(given, Ask::Draw(named_in(given)?)),

@@ -28,17 +28,19 @@
 
 mod boxes;
 mod devices;
+mod first_line;
 mod line;
 mod number;
 mod options;
 mod progress;
+mod seen;
 mod stack;
 mod tips;
 mod usage;
 mod why;
 
 ghost use Rattle.std.specs.Prelude.{◌≡◌, ◌<◌, ◌≤◌, IfOk, IfSome, All};
-ghost use Rattle.tpl_cli.specs.Prelude.{AreThreads, Does, IsWithin, RefutesDocument, RunsDocument, ServesBoxes, TellsAs, TracesDocument, VerifiesAs, VerifiesDocument};
+ghost use Rattle.tpl_cli.specs.Prelude.{AreThreads, AuditsAsPage, Does, IsWithin, RefutesDocument, RunsDocument, ServesBoxes, TellsAs, TracesDocument, VerifiesAs, VerifiesDocument};
 ghost use Rattle.tpl_commands.specs.Prelude.{RequestsTokens};
 ghost use Rattle.tpl_each.specs.Prelude.{RespondsToEach};
 ghost use Rattle.tpl_graph.specs.Prelude.{Fits};
@@ -47,10 +49,12 @@ ghost use Rattle.tpl_report.specs.Prelude.{IsToldOf};
 
 use crate::boxes::run_boxes;
 use crate::devices::{Noting, say_unwritten, say_what_failed};
+use crate::first_line::FirstLine;
 use crate::line::{Line, LineFault, Tries, line_of};
 use crate::progress::{ClaimProgress, RunProgress};
+use crate::seen::Seen;
 use crate::stack::take_stack;
-use crate::why::{Teller, asks_why, say_what_is_read};
+use crate::why::{Teller, asks_why, reads_each, say_newer, say_one_line, say_what_is_read};
 use std::alloc::Global;
 use std::io::{BufWriter, ErrorKind, IsTerminal, Read, Write};
 use std::process::ExitCode;
@@ -65,6 +69,7 @@ use tpl_journal::Counting;
 use tpl_model::Inputs;
 use tpl_reader::Document;
 use tpl_report::{Crew, Depth, Telling};
+use tpl_shown::audit_page;
 use tpl_trace::trace_document;
 use tpl_verdicts::{OneByOne, Verification, verify_document};
 use tpl_verify::{Limits, Search, refute_document};
@@ -81,11 +86,12 @@ fn words(rt: &HostRuntime) -> Result<Vec<String>, LineFault> {
     }
 }
 
-/// What is to be done, and whether the standard error is to say why the answer is what it is.
+/// What is to be done, whether the standard error is to say why the answer is what it is, and what was seen meanwhile.
 #[derive(Drop)]
 struct Order {
     line: Line,
     explains: bool,
+    seen: Seen,
 }
 
 /// What the command line says. Its texts call the program `taskgraph`, whatever file it is run from. Where the standard
@@ -98,7 +104,11 @@ fn given_order(rt: &HostRuntime) -> Result<Order, LineFault>
     let texts: Vec<&str> = iter::once("taskgraph").chain(given).collect(rt.alloc())?;
     let line = line_of(rt.alloc(), &texts)?;
     let explains = asks_why(&texts) || rt.stderr().is_terminal();
-    Ok(Order { line, explains })
+    Ok(Order {
+        line,
+        explains,
+        seen: Seen::new(),
+    })
 }
 
 /// Makes the run of a document, which is told so.
@@ -241,7 +251,7 @@ fn refute<I: Read, O: Write>(
 }
 
 /// Answers each claim of the document that comes, by several threads where there are some.
-fn verify_one<R: Threads + Sync, I: Read, O: Write>(
+fn verify_one<R: Threads + Wait + Sync, I: Read, O: Write + Send>(
     rt: &HostRuntime,
     threads: &R,
     teller: Teller<'_>,
@@ -253,12 +263,13 @@ fn verify_one<R: Threads + Sync, I: Read, O: Write>(
     ensures { VerifiesDocument asked.limits.depth asked.style I.remaining from.old from.new
         O.contents to.old to.new result }
 {
-    let (progress, teller) = (ClaimProgress::new(rt), teller.of_search());
+    let progress = ClaimProgress::beside(rt, asked.style, teller.seen());
+    let teller = teller.of_search();
     verify_document(threads, rt.alloc(), asked, &progress, teller, from, to)
 }
 
 /// Answers each claim of the document that comes, or of the document on each line.
-fn verify<R: Threads + Sync, I: Read, O: Write>(
+fn verify<R: Threads + Wait + Sync, I: Read, O: Write + Send>(
     rt: &HostRuntime,
     threads: &R,
     teller: Teller<'_>,
@@ -296,9 +307,21 @@ fn trace<I: Read, O: Write>(
     trace_document(rt.alloc(), teller, from, to)
 }
 
+/// Writes the audit of the journal of the document that comes as a page.
+fn show_audit<I: Read, O: Write>(
+    rt: &HostRuntime,
+    teller: Teller<'_>,
+    from: &mut Counting<I>,
+    to: &mut Counting<O>,
+) -> Exit
+    ensures { AuditsAsPage I.remaining from.old from.new O.contents to.old to.new result }
+{
+    audit_page(rt.alloc(), teller, from, to)
+}
+
 /// Answers what comes as the line asks, and says on the standard error why the answer is what it is, where that is asked
 /// for.
-fn answer<R: Threads + Wait + Sync, I: Read, O: Write>(
+fn answer<R: Threads + Wait + Sync, I: Read, O: Write + Send>(
     rt: &HostRuntime,
     threads: &R,
     order: &Order,
@@ -308,7 +331,7 @@ fn answer<R: Threads + Wait + Sync, I: Read, O: Write>(
     requires { IsWithin order.now.line }
     ensures { Does order.now.line I.remaining from.old from.new O.contents to.old to.new result }
 {
-    let teller = Teller::new(rt, &order.line, order.explains);
+    let teller = Teller::new(rt, &order.line, order.explains, &order.seen);
     match order.line {
         Line::Serve(ask) => serve_watched(rt.alloc(), ask, teller.of_ask(&ask), from, to),
         Line::Each(ask, jobs) => {
@@ -336,6 +359,17 @@ fn answer<R: Threads + Wait + Sync, I: Read, O: Write>(
             verify(rt, threads, teller, command, jobs, is_each, from, to)
         }
         Line::Trace => trace(rt, teller, from, to),
+        Line::AuditPage => show_audit(rt, teller, from, to),
+    }
+}
+
+/// Says what helps where not each answer is yes: the first line of several ends in the middle of a document, or a claim may be
+/// proved in a newer version of it.
+fn say_what_helps(rt: &HostRuntime, order: &Order, is_cut: bool) {
+    if is_cut {
+        say_one_line(rt);
+    } else if order.explains && order.seen.may_be_proved() {
+        say_newer(rt);
     }
 }
 
@@ -345,15 +379,19 @@ fn perform<R: Threads + Wait + Sync>(rt: &HostRuntime, threads: &R, order: Order
     requires { IsWithin order.line }
 {
     say_what_is_read(rt);
-    let mut from = Counting::new(Noting::new(rt.stdin()));
+    let input = FirstLine::new(rt.stdin(), reads_each(&order.line));
+    let mut from = Counting::new(Noting::new(input));
     let Ok(out) = BufWriter::new(rt.alloc(), Noting::new(rt.stdout())) else {
         return put_out_of_memory(&mut Counting::new(rt.stdout()));
     };
     let mut to = Counting::new(out);
     let exit = answer(rt, threads, &order, &mut from, &mut to);
     let (out, _left) = to.into_inner().into_parts();
-    if exit == Exit::Device {
-        say_what_failed(rt, from.into_inner().error(), out.error());
+    let from = from.into_inner();
+    match exit {
+        Exit::Device => say_what_failed(rt, from.error(), out.error()),
+        Exit::Failure => say_what_helps(rt, &order, from.inner().is_cut()),
+        _ => {}
     }
     exit
 }

@@ -118,6 +118,8 @@ pub(crate) enum CommandOption {
     Language,
     /// How verdicts are written.
     Style,
+    /// How an audit is written.
+    AuditStyle,
 }
 
 impl CommandOption {
@@ -137,6 +139,10 @@ impl CommandOption {
             CommandOption::Style => {
                 let help = "How the verdicts are written: text, json, junit or html";
                 word_arg(alloc, "STYLE", help, "text")
+            }
+            CommandOption::AuditStyle => {
+                let said = "How the audit is written: text or html";
+                word_arg(alloc, "STYLE", said, "text")
             }
         }
     }

@@ -1,5 +1,6 @@
 //! How far the work is, told on the standard error while it goes on, where that is a terminal.
 
+use crate::seen::Seen;
 use std::alloc::Global;
 use std::io::IsTerminal;
 use std::sync::atomic::{AtomicBool, AtomicUsize, Ordering};
@@ -10,6 +11,7 @@ use tpl_graph::Graph;
 use tpl_machine::Core;
 use tpl_model::{Inputs, TaskId};
 use tpl_report::{Follow, Watcher};
+use tpl_verdicts::Style;
 use tpl_verify::{Attend, Verdict};
 
 /// How long it takes until the line is written again, in milliseconds.
@@ -84,6 +86,7 @@ pub(crate) struct ClaimProgress<'a> {
     rt: &'a HostRuntime,
     shows: bool,
     judged: AtomicUsize,
+    seen: Option<&'a Seen>,
 }
 
 impl<'a> ClaimProgress<'a> {
@@ -93,6 +96,19 @@ impl<'a> ClaimProgress<'a> {
             rt,
             shows: rt.stderr().is_terminal(),
             judged: AtomicUsize::new(0),
+            seen: None,
+        }
+    }
+
+    /// The same, but each verdict is seen; and where verdicts are written to a terminal as they come, nothing is told beside
+    /// them.
+    pub(crate) fn beside(rt: &'a HostRuntime, style: Style, seen: &'a Seen) -> ClaimProgress<'a> {
+        let progress = ClaimProgress::new(rt);
+        let is_told = style == Style::Text && rt.stdout().is_terminal();
+        ClaimProgress {
+            shows: progress.shows && !is_told,
+            seen: Some(seen),
+            ..progress
         }
     }
 }
@@ -109,6 +125,9 @@ fn said_of(verdict: &Verdict) -> Option<&'static str> {
 
 impl Attend for ClaimProgress<'_> {
     fn judged(&self, number: usize, verdict: &Verdict) {
+        if let Some(seen) = self.seen {
+            seen.judged(verdict);
+        }
         if self.shows {
             let judged = self.judged.fetch_add(1, Ordering::SeqCst).saturating_add(1);
             if let Some(said) = said_of(verdict) {
@@ -137,7 +156,7 @@ impl Follow for RunProgress<'_> {
         clear(self.rt);
     }
 
-    fn is_over(&self) {
+    fn stop(&self) {
         self.over.store(true, Ordering::Release);
     }
 }

@@ -96,7 +96,12 @@ impl Subcommand {
         ensures { result.now ≡ (words_of self).1 }
     {
         match self {
-            Subcommand::Check | Subcommand::Audit => &[
+            Subcommand::Check => &[
+                CommandOption::Flag(Flag::Each),
+                CommandOption::Number(Number::Jobs),
+            ],
+            Subcommand::Audit => &[
+                CommandOption::AuditStyle,
                 CommandOption::Flag(Flag::Each),
                 CommandOption::Number(Number::Jobs),
             ],

@@ -8,6 +8,7 @@ ghost use Rattle.tpl_reader.specs.Prelude.{Spells, doc_of};
 
 use crate::line::Line;
 use crate::progress::clear;
+use crate::seen::Seen;
 use json::Value;
 use std::alloc::{AllocError, Global};
 use std::io::IsTerminal;
@@ -26,6 +27,14 @@ const NO_CLAIM: &str = "no claim was asked, so nothing is shown\n";
 
 /// What a command says of a document without a journal.
 const NO_JOURNAL: &str = "the document has no journal, so nothing was recorded\n";
+
+/// What is said where each line is to be a document, and the first one ends in the middle of one.
+const ONE_LINE: &str =
+    "taskgraph: --each reads a document from each line, and the first line ends in the middle of one; `jq -c . document.json` writes it on one line, and so does `python3 -c 'import json, sys; print(json.dumps(json.load(sys.stdin)))' < document.json`\n";
+
+/// What is said where a claim of an older document is unknown.
+const NEWER: &str =
+    "taskgraph: version 3 has rules that prove more; write `\"version\": 3` in the document, and ask again\n";
 
 /// What a command answers about. Where a document has nothing of it, the answer says nothing.
 #[derive(Clone, Copy, Debug, Drop, PartialEq, Eq)]
@@ -46,7 +55,7 @@ fn subject_of(line: &Line) -> Subject {
         Line::Serve(Ask::Check | Ask::Analyse(_) | Ask::AnalyseIn(_, _) | Ask::Certify(_, _)) => {
             Subject::Claims
         }
-        Line::Serve(Ask::Audit) | Line::Trace => Subject::Journal,
+        Line::Serve(Ask::Audit) | Line::Trace | Line::AuditPage => Subject::Journal,
         Line::Verify { .. } => Subject::Verdicts,
         Line::Serve(Ask::Draw(_)) | Line::Each(_, _) | Line::Run { .. } | Line::Refute { .. } => {
             Subject::Graph
@@ -63,11 +72,18 @@ pub(crate) struct Teller<'a> {
     shows: bool,
     explains: bool,
     subject: Subject,
+    seen: &'a Seen,
 }
 
 impl<'a> Teller<'a> {
-    /// Tells nothing of a search; and reasons of what this line answers, where they are asked for.
-    pub(crate) fn new(rt: &'a HostRuntime, line: &Line, explains: bool) -> Teller<'a>
+    /// Tells nothing of a search; and reasons of what this line answers, where they are asked for. The document that it hears
+    /// of is seen.
+    pub(crate) fn new(
+        rt: &'a HostRuntime,
+        line: &Line,
+        explains: bool,
+        seen: &'a Seen,
+    ) -> Teller<'a>
         ensures { result.explains ≡ explains }
     {
         Teller {
@@ -75,7 +91,13 @@ impl<'a> Teller<'a> {
             shows: false,
             explains,
             subject: subject_of(line),
+            seen,
         }
+    }
+
+    /// What is seen of the document, and of what is found for it.
+    pub(crate) fn seen(self) -> &'a Seen {
+        self.seen
     }
 
     /// Tells also how far a search is, on a terminal alone.
@@ -131,6 +153,7 @@ impl Watch for Teller<'_> {
 
 impl Hear for Teller<'_> {
     fn document(self, alloc: Global, value: &Value<'_>, document: &Document) {
+        self.seen.read(document.version);
         if let Some(text) = self.lack_of(document) {
             let _ = eprint!(self.rt; "{text}");
         }
@@ -209,4 +232,23 @@ pub(crate) fn say_what_is_read(rt: &HostRuntime) {
     if rt.stdin().is_terminal() {
         let _ = eprint!(rt; "taskgraph: reading the document from the standard input\n");
     }
+}
+
+/// Whether the line asks for the document on each line.
+pub(crate) fn reads_each(line: &Line) -> bool {
+    match line {
+        Line::Each(_, _) => true,
+        Line::Verify { is_each, .. } => *is_each,
+        _ => false,
+    }
+}
+
+/// Says that a document stands on one line where each line is read, and how it gets there.
+pub(crate) fn say_one_line(rt: &HostRuntime) {
+    let _ = eprint!(rt; "{ONE_LINE}");
+}
+
+/// Says that a newer version may prove more.
+pub(crate) fn say_newer(rt: &HostRuntime) {
+    let _ = eprint!(rt; "{NEWER}");
 }

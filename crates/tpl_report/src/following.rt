@@ -18,8 +18,8 @@ pub trait Follow: Sync {
     /// is over.
     fn follow(&self, watcher: Watcher);
 
-    /// The run is over.
-    fn is_over(&self);
+    /// The run is over: whoever follows it has to come back.
+    fn stop(&self);
 }
 
 /// Sees nothing.
@@ -29,7 +29,7 @@ pub struct Nobody;
 impl Follow for Nobody {
     fn follow(&self, _watcher: Watcher) {}
 
-    fn is_over(&self) {}
+    fn stop(&self) {}
 }
 
 /// Who makes a run, and who follows it.
@@ -79,7 +79,7 @@ fn run_seen<'g, R: Threads + Wait + Sync, K: Drop + Send, W: Item<K> + Send, F: 
         {
             start(scope, follower, watcher);
             let done = session.run(rt, alloc, pass, workers);
-            follower.is_over();
+            follower.stop();
             done
         },
     )

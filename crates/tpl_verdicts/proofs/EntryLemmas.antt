@@ -13,7 +13,7 @@ use Rattle.tpl_verdicts.specs.Lines.{AreNumbered}
 use Rattle.tpl_verdicts.specs.Told.{Told, told}
 
 -- one thing more
-numbered_snoc : {A B : Type 0} (R : ℕ → A → B → Type 0) (n m : ℕ) (xs : List A) (ys : List B) (x : A) (y : B) → m ≡ n + length xs → AreNumbered R n xs ys → R m x y → AreNumbered R n (xs ++ x ∷ []) (ys ++ y ∷ [])
+pub numbered_snoc : {A B : Type 0} (R : ℕ → A → B → Type 0) (n m : ℕ) (xs : List A) (ys : List B) (x : A) (y : B) → m ≡ n + length xs → AreNumbered R n xs ys → R m x y → AreNumbered R n (xs ++ x ∷ []) (ys ++ y ∷ [])
 numbered_snoc R n m [] [] x y e all one = (subst (λ (k : ℕ). R k x y) (let s : m ≡ n = omega (arith, e) in s) one, tt)
 numbered_snoc R n m [] (b ∷ ys) x y e all one = absurd all
 numbered_snoc R n m (a ∷ xs) [] x y e all one = absurd all

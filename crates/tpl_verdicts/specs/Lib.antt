@@ -6,4 +6,6 @@ pub mod Junit
 pub mod Json
 pub mod Html
 pub mod Answer
+pub mod Asked
+pub mod Streaming
 pub mod Prelude

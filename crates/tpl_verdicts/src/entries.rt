@@ -25,7 +25,7 @@ fn title_of(alloc: Global, name: Option<&str>) -> Result<String, AllocError>
 }
 
 /// What is said of a claim.
-fn entry_of(alloc: Global, judgement: &Judgement<'_>) -> Result<Entry, AllocError>
+pub(crate) fn entry_of(alloc: Global, judgement: &Judgement<'_>) -> Result<Entry, AllocError>
     requires { IsRight judgement.now }
     ensures { IfOk result (IsEntry judgement.now.graph.now.names judgement.now.number
         (told_of judgement.now)) }

@@ -1,33 +1,14 @@
 //! The verdicts as a page for a browser.
 
-ghost use Rattle.std.specs.Prelude.{◌≡◌, IfOk, IsUtf8, string_bytes};
+ghost use Rattle.std.specs.Prelude.{IfOk, IsUtf8, string_bytes};
 ghost use Rattle.tpl_reader.specs.Prelude.{behind_mark};
-ghost use Rattle.tpl_verdicts.specs.Prelude.{AreRight, IsHtml, all_told, shown};
+ghost use Rattle.tpl_verdicts.specs.Prelude.{AreRight, IsHtml, all_told};
 
 use crate::json::json_of;
 use crate::judgement::Judgements;
 use crate::text::text_of;
 use std::alloc::{AllocError, Global};
-use tpl_page::page_of;
-use tpl_reader::behind_mark;
-
-/// The text of the document that these bytes spell.
-fn text_in(bytes: &[u8]) -> &str
-    requires { IsUtf8 (behind_mark bytes.now) }
-    ensures { result.now ≡ behind_mark bytes.now }
-{
-    match std::str::from_utf8(behind_mark(bytes)) {
-        Ok(text) => text,
-        Err(_) => unreachable!(),
-    }
-}
-
-/// What the page's scripts show.
-fn shown(alloc: Global, document: &str, verdicts: &str) -> Result<String, AllocError>
-    ensures { IfOk result (λ text. string_bytes text ≡ shown document.now verdicts.now) }
-{
-    format!(in alloc; "{{\"document\":{document},\"verdicts\":{verdicts}}}")
-}
+use tpl_shown::document_page;
 
 /// The verdicts on the claims of the document that these bytes spell as a page, which has the document's own text. Without
 /// scripts it shows what the verdicts say as lines.
@@ -44,6 +25,5 @@ pub(crate) fn html_of(
 {
     let lines = text_of(alloc, all)?;
     let verdicts = json_of(alloc, all)?;
-    let shown = shown(alloc, text_in(bytes), verdicts.as_str())?;
-    page_of(alloc, lines.as_str(), shown.as_str())
+    document_page(alloc, bytes, lines.as_str(), "verdicts", verdicts.as_str())
 }

@@ -11,7 +11,6 @@ ghost use Rattle.tpl_verify.specs.Prelude.{AreFirst, IsEmpty};
 
 use crate::causes::causes_value;
 use crate::judgement::{Judgement, Judgements};
-use crate::reason::name_of;
 use crate::sums::sums_of;
 use serde_json::{Value, json};
 use std::alloc::{AllocError, Global};
@@ -21,6 +20,7 @@ use tpl_journal::spells_run;
 use tpl_model::Inputs;
 use tpl_reasons::claim_words;
 use tpl_refute::Counterexample;
+use tpl_shown::name_of;
 use tpl_verify::{Empty, Tried, Verdict, input_members, journal_text};
 
 /// Why a claim says nothing, by a word.

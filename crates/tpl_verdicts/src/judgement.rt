@@ -33,7 +33,7 @@ pub(crate) struct Judgements<'d> {
 }
 
 /// The name at this place, if there is one.
-fn name_at(names: &[Option<String>], place: usize) -> Option<&str>
+pub(crate) fn name_at(names: &[Option<String>], place: usize) -> Option<&str>
     ensures { option_map (λ name. name.now) result
         ≡ slice_index_or (map (λ name. option_map string_bytes name) names.now) place None }
 {

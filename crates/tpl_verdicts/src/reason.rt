@@ -2,24 +2,13 @@
 
 ghost use Rattle.std.specs.Prelude.{◌≡◌, IfOk, string_bytes};
 ghost use Rattle.tpl_graph.specs.Prelude.{Fits};
-ghost use Rattle.tpl_journal.specs.Lines.{task_name};
-ghost use Rattle.tpl_model.specs.Prelude.{is_task};
 ghost use Rattle.tpl_verdicts.specs.Prelude.{why_line};
 ghost use Rattle.tpl_verify.specs.Prelude.{IsEmpty};
 
 use std::alloc::{AllocError, Global};
 use tpl_graph::{Claim, Graph};
-use tpl_model::TaskId;
+use tpl_shown::name_of;
 use tpl_verify::Empty;
-
-/// The name of a task that a reason names.
-pub(crate) fn name_of(graph: &Graph, task: TaskId) -> &str
-    requires { is_task graph.now.graph task.0 }
-    ensures { result.now ≡ task_name graph.now.names task }
-{
-    graph.valid_law();
-    graph.name(task)
-}
 
 /// The line that tells why a claim is empty.
 pub(crate) fn why_line(

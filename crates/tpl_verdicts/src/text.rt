@@ -23,7 +23,7 @@ fn indented(alloc: Global, lines: &[String]) -> Result<String, AllocError>
 }
 
 /// The lines for a claim.
-fn entry_text(alloc: Global, entry: &Entry) -> Result<String, AllocError>
+pub(crate) fn entry_text(alloc: Global, entry: &Entry) -> Result<String, AllocError>
     ensures { IfOk result (λ text. string_bytes text ≡ entry_text entry.now) }
 {
     let lines = indented(alloc, &entry.lines)?;

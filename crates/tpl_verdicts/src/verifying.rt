@@ -1,12 +1,11 @@
-//! The verdicts on the claims of a document, from a reader to a writer.
+//! The verdicts on the claims of a document, as one text.
 
-ghost use Rattle.std.specs.Prelude.{◌≡◌, ◌⊎◌, ◌+◌, ◌≤◌, ◌<◌, None, IfOk, IfSome, IsTrue, IsUtf8, string_bytes, All};
+ghost use Rattle.std.specs.Prelude.{◌≡◌, ◌<◌, None, IfOk, IsTrue, IsUtf8, string_bytes, All};
 ghost use Rattle.std.specs.List.{AllZip};
-ghost use Rattle.tpl_commands.specs.Prelude.{IsFindingOf, Responds, is_verdict, rules_of};
+ghost use Rattle.tpl_commands.specs.Prelude.{is_verdict, rules_of};
 ghost use Rattle.tpl_graph.specs.Prelude.{Fits};
-ghost use Rattle.tpl_journal.specs.Prelude.{calls_of};
-ghost use Rattle.tpl_reader.specs.Prelude.{Spells, behind_mark, doc_of, longest};
-ghost use Rattle.tpl_verdicts.specs.Prelude.{AreRight, IsExit, IsStyled, IsVerified, Judged, Verified, Verifies, all_told};
+ghost use Rattle.tpl_reader.specs.Prelude.{Spells, behind_mark, doc_of};
+ghost use Rattle.tpl_verdicts.specs.Prelude.{AreRight, IsExit, IsStyled, IsVerified, Verifies, all_told, told};
 ghost use Rattle.tpl_verify.specs.Prelude.{HoldsAlways, IsShallow, IsVerdict};
 
 use crate::html::html_of;
@@ -18,18 +17,14 @@ use crate::style::Style;
 use crate::text::text_of;
 use crate::verification::Verification;
 use std::alloc::{AllocError, Global};
-use std::io::{Read, Write};
 use std::thread::Threads;
 use tpl_analyser::Depth;
-use tpl_commands::{
-    Answer, Answered, Command, Exit, Listen, put_answered, read_input, rules_of, unread,
-};
-use tpl_journal::Counting;
-use tpl_reader::{Document, Hear, Unheard, read_document_heard};
+use tpl_commands::{Answer, Answered, Command, Exit, rules_of, unread};
+use tpl_reader::{Document, Unheard, read_document_heard};
 use tpl_verify::{Attend, Limits, Verdict, all_hold, verify, verify_beside};
 
 /// How the program ends with these verdicts. Where there is none, nothing was verified, which is no success.
-fn exit_of(all: &Judgements<'_>) -> Exit
+pub(crate) fn exit_of(all: &Judgements<'_>) -> Exit
     requires { AreRight all.now }
     ensures ends { IsExit all.now.verdicts.now result }
     ensures sound { result ≡ Exit.Success
@@ -64,6 +59,32 @@ fn styled(
     }
 }
 
+/// The claims of the document with these verdicts.
+pub(crate) fn judgements_of<'d>(
+    document: &'d Document,
+    verdicts: &'d [Verdict],
+    depth: Depth,
+) -> Judgements<'d>
+    requires claims { All (Fits document.now.graph.graph) document.now.claims.items }
+    requires verdicts { AllZip (IsVerdict (rules_of (doc_of document.now))
+        document.now.graph.graph) document.now.claims.items verdicts.now }
+    ensures right { AreRight result }
+    ensures graph { result.graph.now ≡ document.now.graph }
+    ensures claims { result.claims.now ≡ document.now.claims.items }
+    ensures verdicts { result.verdicts.now ≡ verdicts.now }
+    ensures told { all_told result ≡ told document.now.claims.items (doc_of document.now).names
+        verdicts.now }
+{
+    let rules = rules_of(document);
+    Judgements {
+        graph: &document.graph,
+        claims: &document.claims,
+        names: &document.names,
+        verdicts,
+        searched: Searched { depth, rules },
+    }
+}
+
 /// The answer where these are the verdicts on the claims of the document that the bytes spell.
 fn answer_of(
     alloc: Global,
@@ -82,14 +103,7 @@ fn answer_of(
         it.answer.exit (string_bytes it.answer.text)) }
     ensures found { IfOk result (λ it. it.finding ≡ None) }
 {
-    let rules = rules_of(document);
-    let all = Judgements {
-        graph: &document.graph,
-        claims: &document.claims,
-        names: &document.names,
-        verdicts,
-        searched: Searched { depth, rules },
-    };
+    let all = judgements_of(document, verdicts, depth);
     let text = styled(alloc, style, bytes, &all)?;
     let exit = exit_of(&all);
     let (answer, finding) = (Answer { exit, text }, None);
@@ -122,7 +136,7 @@ impl Command for OneByOne {
 }
 
 /// The answer to the document that the bytes spell, whose claims are searched by several threads.
-fn answer_beside<T: Threads + Sync, A: Attend + Sync>(
+pub(crate) fn answer_beside<T: Threads + Sync, A: Attend + Sync>(
     rt: &T,
     alloc: Global,
     asked: Verification,
@@ -141,67 +155,4 @@ fn answer_beside<T: Threads + Sync, A: Attend + Sync>(
     let (rules, limits) = (rules_of(document), &asked.limits);
     let verdicts = verify_beside(rt, alloc, graph, claims, rules, limits, asked.jobs, attend)?;
     answer_of(alloc, limits.depth, asked.style, bytes, document, &verdicts)
-}
-
-/// The answer to bytes, by several threads.
-fn answer<T: Threads + Sync, A: Attend + Sync, H: Hear>(
-    rt: &T,
-    alloc: Global,
-    asked: Verification,
-    attend: &A,
-    hear: H,
-    bytes: &[u8],
-) -> Result<Answered, AllocError>
-    requires { 0 < asked.jobs }
-    ensures answer { IfOk result (λ it.
-        Verifies asked.limits.depth asked.style bytes.now it.answer.exit
-        (string_bytes it.answer.text)) }
-    ensures found { IfOk result (λ it. IfSome it.finding (IsFindingOf bytes.now)) }
-{
-    match read_document_heard(alloc, bytes, hear) {
-        Ok(document) => answer_beside(rt, alloc, asked, attend, bytes, &document),
-        Err(misread) => unread(alloc, bytes, misread),
-    }
-}
-
-/// Reads a document to its end, at most 16,777,216 bytes, and writes a verdict on each of its claims: it holds, it fails,
-/// it is empty, or neither is known. It is no success where there is no claim. Whatever the number of threads, the answer is the same.
-///
-/// The text is made whole before its first byte is written. A failed read ends the reading, and then nothing is
-/// written; after a failed write no more is. Who attends is told of each verdict as soon as it is found; where the
-/// document can't be read, the listener is told why.
-pub fn verify_document<T: Threads + Sync, A: Attend + Sync, L: Listen, I: Read, O: Write>(
-    rt: &T,
-    alloc: Global,
-    asked: Verification,
-    attend: &A,
-    listener: L,
-    from: &mut Counting<I>,
-    to: &mut Counting<O>,
-) -> Exit
-    requires jobs { 0 < asked.jobs }
-    ensures responds { Responds (Verifies asked.limits.depth asked.style) I.remaining from.old from.new
-        O.contents to.old to.new result }
-    ensures reads { calls_of from.new ≤ calls_of from.old + (longest + 2) }
-
-    // With success or failure a true verdict on each claim was written.
-    ensures judged { (result ≡ Exit.Success) ⊎ (result ≡ Exit.Failure)
-        → Judged I.remaining from.old from.new O.contents to.old to.new asked.style result }
-
-    // A claim is said to hold where a certificate of it is accepted; with success there is a claim, and each holds in each run of the
-    // graph, for all inputs and whatever comes from outside, and none is known to be empty.
-    ensures verified { (result ≡ Exit.Success) ⊎ (result ≡ Exit.Failure)
-        → Verified I.remaining from.old from.new O.contents to.old to.new asked.limits.depth
-        asked.style result }
-{
-    match read_input(alloc, from, to) {
-        Ok(bytes) => {
-            let answered = answer(rt, alloc, asked, attend, listener, &bytes);
-            put_answered(answered, listener, &bytes, to)
-        }
-        Err(exit) => {
-            listener.unread(exit);
-            exit
-        }
-    }
 }

@@ -20,7 +20,7 @@ use tpl_refute::Seen;
 use tpl_wide::{Unsplit, links};
 
 /// The verdict on the claim at this place; none where memory was refused.
-fn verdict_at<A: Attend>(
+pub(crate) fn verdict_at<A: Attend>(
     alloc: Global,
     graph: &Graph,
     claims: &[Claim],

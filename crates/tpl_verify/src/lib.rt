@@ -24,8 +24,9 @@
 //! - **The rows of the tree without a split are worked out once for all claims under which nothing is given.** What they say
 //!   depends on what is assumed alone, but for the chain of an exception that is to be observed. So most claims of a large
 //!   document cost a look at a row.
-//! - **The claims go to the threads in shares of neighbours**, since that is how the toolchain's call for many
-//!   threads has it, whose contract says what each call wrote. So a share with several dear claims may be waited for.
+//! - **Where all verdicts are wanted at once, the claims go to the threads in shares of neighbours**, since that is how the
+//!   toolchain's call for many threads has it, whose contract says what each call wrote. So a share with several dear claims
+//!   may be waited for. Where they are told in order, each thread takes the next claim once it has a verdict.
 #![tactic(auto)]
 
 mod aside;
@@ -34,6 +35,7 @@ mod beside;
 mod certifying;
 mod empty;
 mod finding;
+mod in_order;
 mod journal;
 mod limits;
 mod question;
@@ -48,6 +50,7 @@ mod verifying;
 pub use attend::{Attend, Unattended};
 pub use beside::{answers, verify_beside};
 pub use empty::{empty_claims_hold, why_empty};
+pub use in_order::verify_in_order;
 pub use journal::journal_text;
 pub use limits::Limits;
 pub use refuting::refute_document;

@@ -11,6 +11,3 @@ returns-in_ok-search_asked-in-analyse c =
     let ask = c.in_ok-search_asked-in-analyse.field-0 in
     let named : c.args.word.now ≡ codes "analyse" = cc in
     c.served-in-analyse.ensures c.args.word.now (subst (λ (w : Text). Asks w (rows_of (found_of c.args.given.now)) ask) (sym named) c.in_ok-search_asked-in-analyse.ensures)
-
-pub returns-in-audit : goal.returns-in-audit
-returns-in-audit c = c.served-in-audit.ensures c.args.word.now (cc)

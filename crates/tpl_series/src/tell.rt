@@ -1,0 +1,20 @@
+//! How values are told.
+
+use std::alloc::{AllocError, Global};
+
+/// How values are told, one behind another.
+pub trait Tell<V> {
+    ghost use Rattle.std.specs.Prelude.{ℕ, List, IfOk, string_bytes};
+    ghost use Rattle.tpl_series.specs.Told.{IsNext};
+
+    // This value may be told at this place.
+    ghost fits: { Self → ℕ → V → Type 0 };
+
+    // The text tells these values, which are the first ones.
+    ghost tells: { Self → List V → List ℕ → Type 0 };
+
+    /// The text for the value at this place. Out of memory is the only error.
+    fn text(&self, alloc: Global, place: usize, value: &V) -> Result<String, AllocError>
+        requires { fits self.now place value.now }
+        ensures { IfOk result (λ text. IsNext (tells self.now) place value.now (string_bytes text)) };
+}

@@ -1,0 +1,66 @@
+//! The claims of a graph, and how what is found of each is told as text.
+
+ghost use Rattle.std.specs.Prelude.{◌≡◌, ◌+◌, ◌<◌, length, map, option_map, IfOk, Some, slice_get, string_bytes, All};
+ghost use Rattle.tpl_graph.specs.Prelude.{Fits};
+ghost use Rattle.tpl_series.specs.Prelude.{IsNext};
+ghost use Rattle.tpl_verdicts.specs.Prelude.{IsOneOf, IsRight, TellsFirst, names_of, told_of, told_there};
+ghost use Rattle.tpl_verdicts.specs.declared.asked.Asked.{Asked};
+ghost use Rattle.tpl_verify.specs.declared.verdict.Verdict.{Verdict};
+
+use crate::entries::entry_of;
+use crate::judgement::{Judgement, name_at};
+use crate::searched::Searched;
+use crate::text::entry_text;
+use std::alloc::{AllocError, Global};
+use tpl_graph::{Claim, Graph};
+use tpl_series::Tell;
+use tpl_verify::Verdict;
+
+/// The claims of a graph on which verdicts are sought.
+#[derive(Clone, Copy, Drop)]
+pub(crate) struct Asked<'d> {
+    pub(crate) graph: &'d Graph,
+    pub(crate) claims: &'d [Claim],
+    /// The name of each claim that has one.
+    pub(crate) names: &'d [Option<String>],
+    pub(crate) searched: Searched,
+}
+
+impl Asked<'_> {
+    /// The claim at this place with this verdict.
+    fn at<'a>(&'a self, place: usize, verdict: &'a Verdict) -> Judgement<'a>
+        requires { IsOneOf self.now place verdict.now }
+        ensures right { IsRight result }
+        ensures graph { result.graph.now ≡ self.now.graph.now }
+        ensures number { result.number ≡ place + 1 }
+        ensures claim { slice_get self.now.claims.now place ≡ Some (told_of result).claim }
+        ensures told { told_of result
+            ≡ told_there (names_of self.now) place (told_of result).claim verdict.now }
+    {
+        let Asked {
+            graph,
+            claims,
+            names,
+            searched,
+        } = *self;
+        Judgement {
+            graph,
+            number: place + 1,
+            claim: &claims[place],
+            name: name_at(names, place),
+            verdict,
+            searched,
+        }
+    }
+}
+
+impl Tell<Verdict> for Asked<'_> {
+    ghost fits = { IsOneOf };
+
+    ghost tells = { TellsFirst };
+
+    fn text(&self, alloc: Global, place: usize, value: &Verdict) -> Result<String, AllocError> {
+        let entry = entry_of(alloc, &self.at(place, value))?;
+        entry_text(alloc, &entry)
+    }
+}
