@@ -15,7 +15,7 @@
 //!   accepts the tree that is made, or there is none.
 //! - **The depth of a search has a type of its own**, `Depth`, 0 to 6. What is asked of a document, what a command
 //!   line says and what a reason is given for carry it, so that none of these calls has the limit as a condition.
-//!   `analyse` and `analyse_within` take a number, with the condition that it is at most 6.
+//!   `analyse` and `analyse_by` take a number, with the condition that it is at most 6.
 //! - **A search by the wider rules tries splits on winners last.** Few claims need one, and a WhenAny task has as
 //!   many as there are tasks in its list.
 #![tactic(auto)]
@@ -47,10 +47,9 @@ mod win;
 mod written;
 
 pub use budget::{Budget, Leaves};
-pub use certificate::{analyse, analyse_within};
+pub use certificate::{analyse, analyse_by};
 pub use depth::Depth;
 pub use form::Form;
 pub use gap::Gap;
 pub use ran_out::RanOut;
 pub use watch::{Unwatched, Watch};
-pub use wide::analyse_widely;

@@ -14,7 +14,7 @@ ghost use Rattle.tpl_model.specs.declared.rule_set.RuleSet.TheVariants.{Narrow};
 ghost use Rattle.tpl_trees.specs.Prelude.{IsWithinLimits, height};
 
 use std::alloc::{AllocError, Global};
-use tpl_analyser::{Budget, Depth, Form, Gap, Watch, analyse_widely, analyse_within};
+use tpl_analyser::{Budget, Depth, Form, Gap, Watch, analyse_by};
 use tpl_cert::{TreeToFault, trees_text};
 use tpl_graph::{Claim, Graph};
 use tpl_model::RuleSet;
@@ -64,10 +64,7 @@ pub fn find_proof<W: Watch>(
     ensures gap { IfErr result (IsGap rules graph.now.graph claims.now depth) }
 {
     let splits = depth.splits();
-    let certificate = match rules {
-        RuleSet::Narrow => analyse_within(alloc, graph, claims, splits, form, budget)?,
-        RuleSet::Wide => analyse_widely(alloc, graph, claims, splits, form, budget)?,
-    };
+    let certificate = analyse_by(alloc, graph, claims, rules, splits, form, budget)?;
     Ok(Proof { rules, certificate })
 }
 
