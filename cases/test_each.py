@@ -210,19 +210,23 @@ def test_each_read_and_write_that_goes_wrong(bare_program, library):
 # how many megabytes of address space a process may have: too few for the stacks of 64 threads
 NARROW = (40, 61, 80, 120, 200)
 CALLS = 12
+# how exactly a stack is measured, in kilobytes, and how often each is tried
+STEP, TRIES = 4, 3
 
 
+@pytest.mark.parametrize("words", [("check",), ("verify", *FEW[:2])], ids=" ".join)
 @pytest.mark.parametrize("space", NARROW)
-def test_little_address_space(bare_program, space: int):
+def test_little_address_space(bare_program, space: int, words: tuple[str, ...]):
     """Many jobs are answered by fewer threads, and the program ends by no signal."""
     document = hostile.example("saga")
-    lines, (wide, _) = document * 64, hostile.ended(bare_program.path, ("check",), document)
+    lines, (wide, alone) = document * 64, hostile.ended(bare_program.path, words, document)
     for _ in range(CALLS):
-        words = ("check", "--each", "--jobs", "64")
-        status, written = hostile.ended(bare_program.path, words, lines, (resource.RLIMIT_AS, space << 20))
+        status, written = hostile.ended(
+            bare_program.path, (*words, "--each", "--jobs", "64"), lines, (resource.RLIMIT_AS, space << 20)
+        )
         assert status in (YES, NO, DEVICE)
         if status == YES:
-            assert written.decode() == "".join(behind_heads(number, wide, "accepted") for number in range(1, 65))
+            assert written.decode() == "".join(behind_heads(number, wide, alone.decode()) for number in range(1, 65))
 
 
 @pytest.mark.parametrize("space", NARROW)
@@ -234,6 +238,23 @@ def test_little_address_space_for_one_document(bare_program, space: int):
     for _ in range(CALLS):
         status, written = hostile.ended(bare_program.path, (*words, "64"), document, (resource.RLIMIT_AS, space << 20))
         assert (status, written) == alone or status in (MEMORY, DEVICE)
+
+
+def least_stack(program: Program, lines: str) -> int:
+    """The least stack, in kilobytes, with which many jobs have a verdict on each of the lines, whichever thread finds it."""
+    words, low, high = ("verify", "--each", *FEW[:2], "--jobs", "64"), 100, 4_000
+    while high - low > STEP:
+        middle = (low + high) // 2
+        limit = (resource.RLIMIT_STACK, middle << 10)
+        is_enough = all(hostile.ended(program.path, words, lines, limit)[0] in (YES, NO) for _ in range(TRIES))
+        low, high = (low, middle) if is_enough else (middle, high)
+    return high
+
+
+def test_the_stack_is_taken_before_threads_take_the_address_space(bare_program):
+    """What an empty line needs is taken before the first thread starts, and verdicts by many threads need no more."""
+    empty, verdicts = (least_stack(bare_program, lines) for lines in ("\n", hostile.example("saga") * 64))
+    assert verdicts <= empty + STEP
 
 
 @pytest.mark.parametrize("jobs", ("2", "4", "64"))

@@ -1,7 +1,7 @@
 -- One claim more that is told with the verdict on it.
-use Rattle.std.proofs.Common.{◌≡◌, ◌∙◌, ℕ, suc, ◌+◌, ◌<◌, ◌≤◌, ◌++◌, Option, Some, None, List, [], ◌∷◌, length, take, ap, subst, sym, refl, append-nil, arith}
+use Rattle.std.proofs.Common.{◌≡◌, ◌∙◌, ℕ, suc, ◌+◌, ◌≤◌, ◌++◌, Option, Some, List, [], ◌∷◌, length, take, ap, ap₂, subst, sym, refl, append-nil, arith}
 use Rattle.std.specs.Prelude.{slice_get}
-use Rattle.std.specs.List.{All, AllZip, flat_map}
+use Rattle.std.specs.List.{AllZip, flat_map}
 use Rattle.std.proofs.lemmas.Grind.{flat_map-append}
 use Rattle.std.proofs.lemmas.List.{take_all}
 use Rattle.std.proofs.lemmas.List.Elements.{All-append, All-cons, All-nil}
@@ -34,9 +34,9 @@ told_none (c ∷ claims) names = refl
 told_snoc : (claims : List Claim) (names : List (Option (List ℕ))) (verdicts : List Verdict) (claim : Claim) (v : Verdict) → slice_get claims (length verdicts) ≡ Some claim → told claims names (verdicts ++ v ∷ []) ≡ told claims names verdicts ++ told_there names (length verdicts) claim v ∷ []
 told_snoc [] names verdicts claim v there = absurd cc
 told_snoc (c ∷ claims) [] [] claim v there =
-    let same : c ≡ claim = cc in ap (λ (x : Claim). told_there [] 0 x v ∷ []) same
+    let same : c ≡ claim = cc in ap₂ (λ (x : Claim) (rest : List Told). told_there [] 0 x v ∷ rest) same (told_none claims [])
 told_snoc (c ∷ claims) (name ∷ names) [] claim v there =
-    let same : c ≡ claim = cc in ap (λ (x : Claim). told_there (name ∷ names) 0 x v ∷ []) same
+    let same : c ≡ claim = cc in ap₂ (λ (x : Claim) (rest : List Told). told_there (name ∷ names) 0 x v ∷ rest) same (told_none claims names)
 told_snoc (c ∷ claims) [] (w ∷ verdicts) claim v there =
     ap (λ (rest : List Told). told_there [] 0 c w ∷ rest) (told_snoc claims [] verdicts claim v there)
 told_snoc (c ∷ claims) (name ∷ names) (w ∷ verdicts) claim v there =
@@ -92,6 +92,6 @@ text_next asked place v claim entry there one is_entry values before at first =
     let names = names_of asked in
     first_more asked.searched.rules asked.searched.depth graph asked.claims.now names values before claim v entry
     (subst (λ (n : ℕ). slice_get asked.claims.now n ≡ Some claim) (sym at) there)
-    (one.verdict claim there) one.shallow
+    (one.true_of claim there) one.shallow
     (subst (λ (n : ℕ). IsEntry graph.names (n + 1) (told_there names n claim v) entry) (sym at) is_entry)
     first

@@ -1,6 +1,6 @@
 -- What a reason names is a task.
-use Rattle.std.proofs.Common.{◌≡◌, ℕ, ◌⊎◌, inl, inr, List, [], ◌∷◌, subst, sym, arith}
-use Rattle.std.specs.List.{All, AllByRecursion}
+use Rattle.std.proofs.Common.{ℕ, inl, inr, List, [], ◌∷◌, subst, sym, arith}
+use Rattle.std.specs.List.{AllByRecursion}
 use Rattle.std.proofs.lemmas.List.Elements.{recursion_from_All}
 use Rattle.tpl_graph.specs.Fits.{Fits, IsGivenOf, TasksOf}
 use Rattle.tpl_model.specs.Claims.{Claim}

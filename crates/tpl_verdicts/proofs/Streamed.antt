@@ -1,11 +1,12 @@
 -- From what was told claim by claim to the answer that was written.
-use Rattle.std.proofs.Common.{◌≡◌, ◌∙◌, ℕ, ◌++◌, Option, List, length, codes, Result, Ok, Err, ap, inl, inr, refl, sym, subst}
+use Rattle.std.proofs.Common.{Vec, Global, ◌≡◌, ℕ, ◌++◌, Option, List, length, codes, Result, Ok, Err, ap, inl, inr, refl, sym, subst}
 use Rattle.std.specs.Prelude.{MatchResult, IfOk, string_bytes, ◌≤◌}
 use Rattle.std.specs.declared.alloc.AllocError.{AllocError}
-use Rattle.std.specs.List.{AllZip}
 use Rattle.tpl_journal.specs.declared.counting.Counting.{Counting}
 use Rattle.tpl_journal.specs.Writing.{StopsIn, Writes}
 use Rattle.tpl_journal.proofs.PartLemmas.{stopped, then_written}
+use Rattle.tpl_model.specs.declared.rule_set.RuleSet.{RuleSet}
+use Rattle.tpl_model.specs.Claims.{Claim}
 use Rattle.tpl_reader.specs.Document.{DocumentValue, Spells, longest}
 use Rattle.tpl_commands.specs.declared.exit.Exit.{Exit}
 use Rattle.tpl_commands.specs.declared.exit.Exit.TheVariants.{Success, Failure, Usage, Unreadable, Memory, Device, Fault}
@@ -13,14 +14,14 @@ use Rattle.tpl_commands.specs.declared.responding.Answered.{Answered}
 use Rattle.tpl_commands.specs.Responding.{Puts, Reads, Says}
 use Rattle.tpl_commands.proofs.Responses.{IsYesOrNo, says}
 use Rattle.tpl_commands.specs.Rules.{rules_of}
-use Rattle.tpl_series.specs.Told.{HasTold, IsStopped, StopsTelling, TellsAll}
+use Rattle.tpl_series.specs.Told.{IsStopped, TellsAll}
 use Rattle.tpl_series.specs.declared.stop.Stop.{Stop}
 use Rattle.tpl_series.specs.declared.stop.Stop.TheVariants as stop
 use Rattle.tpl_series.proofs.ToldLemmas.{stops_behind}
 use Rattle.tpl_verify.specs.declared.verdict.Verdict.{Verdict}
 use Rattle.tpl_verdicts.specs.declared.style.Style.{Style}
 use Rattle.tpl_verdicts.specs.declared.style.Style.TheVariants.{Text}
-use Rattle.tpl_verdicts.specs.Answer.{IsVerified, Judged, Verified, Verifies}
+use Rattle.tpl_verdicts.specs.Answer.{IsVerified, Verified, Verifies}
 use Rattle.tpl_verdicts.specs.Asked.{AreFirst}
 use Rattle.tpl_verdicts.specs.Lines.{sums_line}
 use Rattle.tpl_verdicts.specs.Streaming.{AnswersBytes, BreaksOff, IsStreamed, PutsStop, PutsSums, Streams}
@@ -34,7 +35,7 @@ puts_behind contents a b c xs ys exit result first (inr stop) = inr (stop.0, sto
 
 module _ {W : Type 0} (contents : W → Option (List ℕ)) (old told new : Counting W) (depth : ℕ) (bytes : List ℕ) (doc : DocumentValue) (result : Exit) where
   -- what the verdicts on the first claims of the document are
-  First : List Verdict → List ℕ → Type 0
+  abbrev First : List Verdict → List ℕ → Type 0
   First = AreFirst (rules_of doc) depth doc.graph doc.claims doc.names
 
   -- each claim was told, and how many verdicts of each word there are was put
@@ -80,6 +81,17 @@ module _ {W : Type 0} (contents : W → Option (List ℕ)) (old told new : Count
     );
   })
 
+  -- telling ended, and what stands behind was put
+  streamed_by : (r : Result (Vec Verdict Global) Stop) → MatchResult r (λ verdicts. TellsAll First (length doc.claims) contents old told verdicts.items) (IsStopped First contents old told) → MatchResult r (λ verdicts. PutsSums contents told new doc verdicts.items result) (λ why. PutsStop contents told new why result) → IsStreamed contents old new depth bytes doc result
+  streamed_by (Ok verdicts) all put = streamed_whole verdicts.items all put
+  streamed_by (Err why) stopped put = streamed_part why stopped put
+
+  -- the same, by rules, claims and names that are the document's
+  pub streamed : (rules : RuleSet) (claims : List Claim) (names : List (Option (List ℕ))) → rules ≡ rules_of doc → claims ≡ doc.claims → names ≡ doc.names → (r : Result (Vec Verdict Global) Stop) → MatchResult r (λ verdicts. TellsAll (AreFirst rules depth doc.graph claims names) (length claims) contents old told verdicts.items) (IsStopped (AreFirst rules depth doc.graph claims names) contents old told) → MatchResult r (λ verdicts. PutsSums contents told new doc verdicts.items result) (λ why. PutsStop contents told new why result) → IsStreamed contents old new depth bytes doc result
+  streamed rules claims names of_rules of_claims of_names r telling put =
+      let Told : RuleSet → List Claim → List (Option (List ℕ)) → Type 0 = λ x y z. MatchResult r (λ verdicts. TellsAll (AreFirst x depth doc.graph y z) (length y) contents old told verdicts.items) (IsStopped (AreFirst x depth doc.graph y z) contents old told) in
+      streamed_by r (subst (λ z. Told (rules_of doc) doc.claims z) of_names (subst (λ y. Told (rules_of doc) y names) of_claims (subst (λ x. Told x claims names) of_rules telling))) put
+
 -- the answer to a document is one of those that say something of its bytes
 says_verified : (depth : ℕ) (bytes : List ℕ) (doc : DocumentValue) (exit : Exit) (text : List ℕ) → length bytes ≤ longest → Spells bytes doc → IsVerified depth Text bytes doc exit text → Says (Verifies depth Text) bytes exit text
 says_verified depth bytes doc Success text le spelled is = (le, inl (doc, spelled, is))
@@ -115,10 +127,10 @@ module _ {R W : Type 0} (remaining : R → Option (List ℕ)) (from_old from_new
 
   -- who is out of memory says neither yes nor no
   silent : (text : List ℕ) → IsYesOrNo result → Puts contents old new Memory text result → ⊥
-  silent text (inl yes) (inl put) = let other = put.0 in cc
-  silent text (inl yes) (inr stop) = let other = stop.0 in cc
-  silent text (inr no) (inl put) = let other = put.0 in cc
-  silent text (inr no) (inr stop) = let other = stop.0 in cc
+  silent text (inl well) (inl put) = let other = put.0 in cc
+  silent text (inl well) (inr stop) = let other = stop.0 in cc
+  silent text (inr ill) (inl put) = let other = put.0 in cc
+  silent text (inr ill) (inr stop) = let other = stop.0 in cc
 
   pub streams_verify : Streams remaining from_old from_new contents old new depth style result → IsYesOrNo result → Verified remaining from_old from_new contents old new depth style result
   streams_verify (inl responds) done =

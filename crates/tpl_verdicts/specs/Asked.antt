@@ -25,7 +25,7 @@ told_there names place claim verdict = record { claim = claim; name = slice_inde
 pub record IsOneOf (asked : Asked) (place : ℕ) (verdict : Verdict) : Type 0 where
   pub within : place < length asked.claims.now
   pub fits : All (Fits asked.graph.now.graph) asked.claims.now
-  pub verdict : IsVerdictAt asked.searched.rules asked.graph.now.graph asked.claims.now place verdict
+  pub true_of : IsVerdictAt asked.searched.rules asked.graph.now.graph asked.claims.now place verdict
   pub shallow : IsShallow asked.searched.depth verdict
 
 -- The text says what the verdicts on the first claims of a graph are, each of which is true, by certificates with at most so

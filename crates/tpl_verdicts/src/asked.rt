@@ -26,9 +26,9 @@ pub(crate) struct Asked<'d> {
     pub(crate) searched: Searched,
 }
 
-impl Asked<'_> {
+impl<'d> Asked<'d> {
     /// The claim at this place with this verdict.
-    fn at<'a>(&'a self, place: usize, verdict: &'a Verdict) -> Judgement<'a>
+    fn at(&self, place: usize, verdict: &'d Verdict) -> Judgement<'d>
         requires { IsOneOf self.now place verdict.now }
         ensures right { IsRight result }
         ensures graph { result.graph.now ≡ self.now.graph.now }
@@ -52,6 +52,16 @@ impl Asked<'_> {
             searched,
         }
     }
+
+    /// The lines for the claim at this place with this verdict.
+    fn lines_at(&self, alloc: Global, place: usize, verdict: &Verdict) -> Result<String, AllocError>
+        requires { IsOneOf self.now place verdict.now }
+        ensures { IfOk result (λ text.
+            IsNext (TellsFirst self.now) place verdict.now (string_bytes text)) }
+    {
+        let entry = entry_of(alloc, &self.at(place, verdict))?;
+        entry_text(alloc, &entry)
+    }
 }
 
 impl Tell<Verdict> for Asked<'_> {
@@ -60,7 +70,18 @@ impl Tell<Verdict> for Asked<'_> {
     ghost tells = { TellsFirst };
 
     fn text(&self, alloc: Global, place: usize, value: &Verdict) -> Result<String, AllocError> {
-        let entry = entry_of(alloc, &self.at(place, value))?;
-        entry_text(alloc, &entry)
+        let Asked {
+            graph,
+            claims,
+            names,
+            searched,
+        } = *self;
+        let asked = Asked {
+            graph,
+            claims,
+            names,
+            searched,
+        };
+        asked.lines_at(alloc, place, value)
     }
 }

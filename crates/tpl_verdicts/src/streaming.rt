@@ -1,6 +1,6 @@
 //! The verdicts on the claims of a document, each written as soon as those before it are, from a reader to a writer.
 
-ghost use Rattle.std.specs.Prelude.{◌≡◌, ◌≢◌, ◌⊎◌, ◌+◌, ◌≤◌, ◌<◌, ◌×◌, ℕ, List, None, codes, length, IfOk, IsTrue, MatchResult, string_bytes, All};
+ghost use Rattle.std.specs.Prelude.{◌≡◌, ◌≢◌, ◌⊎◌, ◌+◌, ◌≤◌, ◌<◌, ℕ, List, None, codes, length, IfOk, IsTrue, MatchResult, string_bytes, All};
 ghost use Rattle.std.specs.List.{AllZip};
 ghost use Rattle.tpl_commands.specs.Prelude.{Puts, Responds, is_verdict, rules_of};
 ghost use Rattle.tpl_graph.specs.Prelude.{Fits};

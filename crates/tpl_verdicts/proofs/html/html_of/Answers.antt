@@ -1,4 +1,4 @@
-use Rattle.std.proofs.Common.{ap₂, subst, ◌∙◌, ℕ, List, codes, string_bytes}
+use Rattle.std.proofs.Common.{subst, ℕ, List, codes, string_bytes}
 use Rattle.std.proofs.lemmas.Result.{IfOk-weaker}
 use Rattle.tpl_reader.specs.Bytes.{behind_mark}
 use Rattle.tpl_shown.specs.Shown.{IsDocumentPage}

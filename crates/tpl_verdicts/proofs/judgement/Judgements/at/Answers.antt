@@ -1,6 +1,5 @@
-use Rattle.std.proofs.Common.{◌∙◌, ap, map, option_map, refl, string_bytes, sym, Option, Some}
+use Rattle.std.proofs.Common.{◌∙◌, ap, map, option_map, refl, string_bytes, sym, Some}
 use Rattle.std.proofs.lemmas.Option.{slice_get_read}
-use Rattle.tpl_verdicts.specs.Told.{Told}
 use Rattle.tpl_verdicts.proofs.EntryLemmas.{claim_fits, has_claim, told_at, verdict_at}
 use Rattle.tpl_verdicts.proofs.judgement.Judgements.at.Goals as goal
 

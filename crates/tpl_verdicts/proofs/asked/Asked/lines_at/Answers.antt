@@ -1,16 +1,16 @@
-use Rattle.std.proofs.Common.{◌≡◌, ◌∙◌, ◌+◌, ◌++◌, ◌∷◌, [], List, ℕ, length, ap, subst, sym, string_bytes}
+use Rattle.std.proofs.Common.{◌≡◌, ◌+◌, ◌++◌, ◌∷◌, [], List, ℕ, length, subst, sym}
 use Rattle.std.proofs.lemmas.Result.{IfOk-weaker}
 use Rattle.tpl_draft.specs.Named.{Named}
-use Rattle.tpl_verdicts.specs.Asked.{TellsFirst, names_of, told_there}
-use Rattle.tpl_verdicts.specs.Lines.{IsEntry, entry_text}
+use Rattle.tpl_verdicts.specs.Asked.{TellsFirst}
+use Rattle.tpl_verdicts.specs.Lines.{IsEntry}
 use Rattle.tpl_verdicts.specs.Told.{Told, told_of}
 use Rattle.tpl_verdicts.proofs.AskedLemmas.{text_next}
-use Rattle.tpl_verdicts.proofs.asked.AskedTell.text.Goals as goal
+use Rattle.tpl_verdicts.proofs.asked.Asked.lines_at.Goals as goal
 
 pub returns : goal.returns
 returns c =
     let asked = c.args.self.now in
-    let v = c.args.value.now in
+    let v = c.args.verdict.now in
     let it = c.at.result in
     let of_graph = subst (λ (g : Named). IsEntry g.names it.number (told_of it) c.in_ok-entry.entry) c.at.ensures.graph c.in_ok-entry.ensures in
     let at_place = subst (λ (n : ℕ). IsEntry asked.graph.now.names n (told_of it) c.in_ok-entry.entry) c.at.ensures.number of_graph in
