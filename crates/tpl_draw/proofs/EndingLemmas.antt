@@ -1,6 +1,6 @@
 -- How tasks end by the rows of a certificate.
 use Rattle.tpl_model.specs.declared.rule_set.RuleSet.{RuleSet}
-use Rattle.std.proofs.Common.{◌≡◌, ℕ, inl, inr, Bool, true, false, Some, List, [], ◌∷◌, refl, sym, subst}
+use Rattle.std.proofs.Common.{◌≡◌, ℕ, inl, inr, Bool, true, Some, List, [], ◌∷◌, refl, sym, subst}
 use Rattle.std.proofs.lemmas.Bool.{or_left, or_right}
 use Rattle.tpl_model.specs.declared.finals.Final.{Final}
 use Rattle.tpl_model.specs.declared.finals.Final.TheVariants.{RanToCompletion, Canceled, Faulted}
@@ -12,7 +12,7 @@ use Rattle.tpl_model.specs.declared.event.Event.{Event}
 use Rattle.tpl_model.specs.Rules.{final, Run}
 use Rattle.tpl_model.specs.Valid.{IsGraph}
 use Rattle.tpl_model.specs.Claims.{Claim}
-use Rattle.tpl_model.specs.Certificate.{row, taken, Tree, Accepts, Row, plain, OnInput, OnEnd, OnWinner, RowsLeaf, LeastLeaf}
+use Rattle.tpl_model.specs.Certificate.{row, Tree, Accepts, Row, plain, OnInput, OnEnd, OnWinner, RowsLeaf, LeastLeaf}
 use Rattle.tpl_model.specs.WiderRules.{widely_assumed}
 use Rattle.tpl_laws.specs.WideTrees.{WidelyAccepts, all_written, written}
 use Rattle.tpl_laws.specs.LeastRows.{ends_where}

@@ -1,11 +1,16 @@
 //! How the tasks may end by the rows of a certificate.
 
-ghost use Rattle.std.specs.Prelude.{◌≡◌, IfOk};
+ghost use Rattle.std.specs.Prelude.{◌≡◌, IfOk, length, All};
 ghost use Rattle.tpl_draw.specs.Prelude.{EndingsAreTrue, either, endings, ends, no_ends, tree_ends};
+ghost use Rattle.tpl_graph.specs.Prelude.{Fits};
+ghost use Rattle.tpl_laws.specs.ByRules.{written_by};
+ghost use Rattle.tpl_laws.specs.Prelude.{AcceptsBy};
 ghost use Rattle.tpl_model.specs.Prelude.{plain, row};
 
+use crate::wide_ending::wide_endings;
 use std::alloc::{AllocError, Global};
-use tpl_model::Finals;
+use tpl_graph::{Claim, Graph};
+use tpl_model::{Finals, RuleSet};
 use tpl_trees::{Node, Row, Tree};
 
 /// No way to end.
@@ -74,7 +79,11 @@ fn ends(trees: &[Tree], task: usize) -> Finals
 }
 
 /// How each of this many tasks may end by the trees of a certificate.
-pub fn endings(alloc: Global, trees: &[Tree], tasks: usize) -> Result<Vec<Finals>, AllocError>
+pub(crate) fn endings(
+    alloc: Global,
+    trees: &[Tree],
+    tasks: usize,
+) -> Result<Vec<Finals>, AllocError>
     ensures { IfOk result (λ found. found.items ≡ endings trees.now tasks) }
 {
     let mut found = Vec::new(alloc);
@@ -82,6 +91,25 @@ pub fn endings(alloc: Global, trees: &[Tree], tasks: usize) -> Result<Vec<Finals
         found.push(ends(trees, task))?;
     }
     Ok(found)
+}
+
+/// How each task may end by the trees of a certificate that the rules accept, with the rows that its leaves leave out.
+pub fn endings_by(
+    alloc: Global,
+    rules: RuleSet,
+    graph: &Graph,
+    claims: &[Claim],
+    trees: &[Tree],
+) -> Result<Vec<Finals>, AllocError>
+    requires claims { All (Fits graph.now.graph) claims.now }
+    requires accepted { AcceptsBy rules graph.now.graph claims.now trees.now }
+    ensures { IfOk result (λ found. found.items ≡ endings
+        (written_by rules graph.now.graph claims.now trees.now) (length graph.now.graph.tasks)) }
+{
+    match rules {
+        RuleSet::Narrow => endings(alloc, trees, graph.len()),
+        RuleSet::Wide => wide_endings(alloc, graph, claims, trees),
+    }
 }
 
 /// Where a certificate is accepted, a task ends as one of its rows says, in each run of which what one of the claims

@@ -119,7 +119,7 @@ fn ends_in_trees(
 }
 
 /// How each task may end by the trees of an accepted certificate whose rows may speak of tokens too, and may be left out.
-pub fn wide_endings(
+pub(crate) fn wide_endings(
     alloc: Global,
     graph: &Graph,
     claims: &[Claim],
