@@ -22,8 +22,8 @@ BY_TYPE = re.compile(
     r" (\{.*?\}|\[.*?\]|<.*?>|\w+)"
 )
 EXCHANGE = re.compile(r" (cmpxchg( weak)?( volatile)?|atomicrmw( volatile)? \w+) ptr [^,]+, ptr ")
-# many pointers in one value; a number of 64 bits that goes as a pointer; memory that a call hands over by its type; and a place in
-# a constant that another type than a number's measures
+# many pointers in one value; a number of 64 bits that goes as a pointer; memory that a call hands over by its type; and a place
+# in a constant that another type than a number's measures
 TYPED = r" x ptr\b", r"byval\(", r"sret\(", r"inalloca\(", r"elementtype\("
 FORMS = [re.compile(form) for form in (*TYPED, r"inttoptr\b", r"getelementptr[\w ]* \((?!i\d+, )")]
 # a type that has a pointer, or parts that have parts
