@@ -1,6 +1,6 @@
 """The files of a release: `dist/make` makes them twice alike, and what is unpacked answers with an empty environment.
 
-What this machine can't make is left out.
+What this machine can't make is left out, but with --release.
 """
 import hashlib
 import io
@@ -31,19 +31,19 @@ PARTS |= {"completions", "docs", "examples", "man", "pages", "schema"}
 ONE_ROOT = '[{"rows":[{"before":[],"chain":[],"ends":["RanToCompletion"],"past":[],"runs":true}]}]\n'
 
 
-def made(program: pathlib.Path) -> str:
+def made(program: pathlib.Path, is_release: bool) -> str:
     """What `dist/make` says of the files that it makes anew."""
     for file in (file for pattern in MADE for file in HERE.glob(pattern)):
         file.unlink()
-    words = [HERE / "make", "--some", program]
+    words = [HERE / "make", *([] if is_release else ["--some"]), program]
     return subprocess.run(words, stdin=subprocess.DEVNULL, stdout=subprocess.PIPE, text=True, check=True).stdout
 
 
 @pytest.fixture(scope="module")
 def sums(pytestconfig) -> tuple[str, str]:
     """What is said of the files, which are made twice."""
-    program = pytestconfig.getoption("--program").resolve()
-    return made(program), made(program)
+    program, is_release = pytestconfig.getoption("--program").resolve(), pytestconfig.getoption("--release")
+    return made(program, is_release), made(program, is_release)
 
 
 @pytest.fixture(scope="module")

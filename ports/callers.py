@@ -31,6 +31,8 @@ class Answer:
 
 
 Caller = Callable[[Sequence[str], bytes], Answer]
+# no answer of the program: each exit status 1 has a line
+SILENT = Answer(1, b"", b"")
 
 
 def called(
@@ -69,6 +71,15 @@ class Wine:
     environment: dict[str, str]
 
     def __call__(self, words: Sequence[str], stdin: bytes) -> Answer:
+        """What it answers. Wine was seen to end with 1 and without a word, which the program never does: then it is asked once
+        more, and that is told."""
+        answer = self.called(words, stdin)
+        if answer == SILENT:
+            print(f"Wine ended with 1 and without a word, and is asked once more: {words}", flush=True)
+            answer = self.called(words, stdin)
+        return answer
+
+    def called(self, words: Sequence[str], stdin: bytes) -> Answer:
         return called([WINE / "wine64", self.program, *words], stdin, self.environment)
 
     def batch(self, file: pathlib.Path) -> Answer:

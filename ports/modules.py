@@ -4,13 +4,16 @@ The module is LLVM's code as the toolchain lowers the sources, before its clang 
 stands beside it: `.ci/compile` leaves it there. That of the proved one is kept here, as the toolchain hands it to its clang:
 for that the program's crate is proved once more, over the libraries that `./prove` or `rt ci` has proved.
 """
+import contextlib
 import dataclasses
+import fcntl
 import os
 import pathlib
 import shutil
 import subprocess
 import sys
 import tempfile
+from collections.abc import Iterator
 
 HERE = pathlib.Path(__file__).resolve().parent
 TOP = HERE.parent
@@ -39,7 +42,8 @@ class Source:
     """What a program for another system is made of."""
 
     module: pathlib.Path
-    object: pathlib.Path
+    # None for a module alone
+    object: pathlib.Path | None
     # what the program is for, as the toolchain names it
     target: str
     # the toolchain's verdict on it, or no text
@@ -49,10 +53,12 @@ class Source:
 def unproved() -> Source:
     """The unproved program's, compiled anew where a source is newer."""
     program = pathlib.Path(compiling.unproved(PROGRAM))
-    module, made = program.with_suffix(".bc"), program.with_suffix(".o")
-    if not module.exists() or not made.exists():
-        compiling.compile_to(str(program), PROGRAM)
-    return Source(module, made, LINUX, "")
+    return Source(program.with_suffix(".bc"), program.with_suffix(".o"), LINUX, "")
+
+
+def lowered() -> Source:
+    """The unproved program's module alone, made anew where a source is newer: for what is compiled and not linked."""
+    return Source(pathlib.Path(compiling.module_of(PROGRAM)), None, LINUX, "")
 
 
 def kept(target: str = LINUX) -> Source | None:
@@ -79,7 +85,7 @@ def words_of(kit: pathlib.Path) -> list[str]:
     words = ["--crate-name", PROGRAM, "src/main.rt"]
     for name in dict.fromkeys(["std", *listed()[PROGRAM]]):
         folder = TOP / f"crates/{name}/out/rlib" if name in listed() else kit / "rlibs"
-        words += ["--extern", f"{name}={folder / name}.rlib"] if name != "core" else []
+        words += ["--extern", f"{name}={folder / name}.rlib"]
     for folder in [kit / "rlibs", *(TOP / f"crates/{name}/out/rlib" for name in below(PROGRAM))]:
         if not folder.is_dir():
             raise NotKept(f"there is no {folder}: ./prove proves what the program stands on")
@@ -113,19 +119,30 @@ def linked() -> Source | None:
     return Source(made, made, LINUX, "") if made else None
 
 
+@contextlib.contextmanager
+def checked() -> Iterator[pathlib.Path]:
+    """The folder of what the proofs for all targets checked, while no other proof is made: what one has checked of the crate the
+    next one takes, since little of it depends on the target. It begins with what ./prove kept."""
+    folder, own = OUT / "checked", TOP / f"crates/{PROGRAM}/out/incremental"
+    with open(OUT / "checked.lock", "w", encoding="utf-8") as held:
+        fcntl.flock(held, fcntl.LOCK_EX)
+        if not folder.is_dir() and own.is_dir():
+            shutil.copytree(own, OUT / "checked.new", dirs_exist_ok=True)
+            os.rename(OUT / "checked.new", folder)
+        folder.mkdir(exist_ok=True)
+        yield folder
+
+
 def keep(target: str, folder: pathlib.Path) -> None:
     """Proves the program's crate for a target, and keeps its module, its object file and the verdict in a folder. Nothing of the
     crate's own is written."""
     kit, crate = pathlib.Path(compiling.kit()), TOP / "crates" / PROGRAM
     # (the module of what is compiled already needn't be compiled once more)
     made = own_object() if target == LINUX else None
-    with tempfile.TemporaryDirectory(prefix="keep-", dir=OUT) as name:
+    OUT.mkdir(parents=True, exist_ok=True)
+    with tempfile.TemporaryDirectory(prefix="keep-", dir=OUT) as name, checked() as before:
         room = pathlib.Path(name)
-        words = ["build", *words_of(kit), "--jobs", "1", "--target", target, "--backend", "llvm"]
-        if (crate / "out/incremental").is_dir():
-            # (what ./prove kept of the crate)
-            shutil.copytree(crate / "out/incremental", room / "incremental")
-            words += ["--incremental", f"{room}/incremental"]
+        words = ["build", *words_of(kit), "--jobs", "2", "--target", target, "--backend", "llvm", "--incremental", str(before)]
         toolchain = toolchain_in(room, kit / "toolchain", "exit 1" if made else f'exec "{kit}/toolchain/bin/clang" "$@"')
         words += ["--toolchain", str(toolchain), "-o", f"{room}/taskgraph.o"]
         ran = compiling.called([kit / "bin/rattle", *words], cwd=crate, stdout=subprocess.PIPE, stderr=subprocess.STDOUT)

@@ -16,6 +16,8 @@ from modules import TOP
 sys.path.insert(0, str(TOP / "cases"))
 import harness  # noqa: E402
 
+from refused import digest  # noqa: E402  isort:skip
+
 # what each example is asked
 OF_EXAMPLES = (
     ("check",),
@@ -89,6 +91,11 @@ def questions() -> Iterator[Question]:
     yield Question("spaces, quotes and signs", ('a "b" c\\', "*", "", "%PATH%", "^&|<>"), b"")
 
 
+def in_turn(commit: str, every: int) -> Iterator[Question]:
+    """The questions that are asked for a commit: one in so many, of each sort."""
+    return (question for question in questions() if int(digest(commit, question.name), 16) % every == 0)
+
+
 def why_not_complete(ours: Caller, whole: Answer) -> str | None:
     """Why a run that is written with its document isn't a complete one, by the Linux program's audit."""
     if whole.exit:
@@ -97,17 +104,19 @@ def why_not_complete(ours: Caller, whole: Answer) -> str | None:
     return None if audited.stdout.startswith(b"run complete\n") else f"the audit says {audited.stdout.decode(errors='replace')}"
 
 
-def why_other(question: Question, ours: Caller, theirs: Caller) -> str | None:
-    """Why an answer isn't the Linux program's, or None. Of a run by several threads the exit status is compared, and another
-    one is audited."""
-    expected, found = ours(question.words, question.stdin), theirs(question.words, question.stdin)
+def why_other(question: Question, expected: Answer, found: Answer) -> str | None:
+    """Why an answer isn't the Linux program's, or None. Of a run by several threads the exit status is compared."""
     if question.is_same_twice:
         return None if found == expected else f"expected {expected}\nfound    {found}"
-    if found.exit != expected.exit:
-        return f"it ends with {found.exit}, and not with {expected.exit}"
-    if expected.exit or "--whole" in question.words:
+    return None if found.exit == expected.exit else f"it ends with {found.exit}, and not with {expected.exit}"
+
+
+def why_no_run(question: Question, expected: Answer, ours: Caller, theirs: Caller) -> str | None:
+    """Why one more run for a question isn't a complete one, or None: that of a question that gets another run each time."""
+    if question.is_same_twice or expected.exit:
         return None
-    return why_not_complete(ours, theirs(("run", "--whole", *question.words[1:]), question.stdin))
+    whole = [] if "--whole" in question.words else ["--whole"]
+    return why_not_complete(ours, theirs([*question.words, *whole], question.stdin))
 
 
 def runnable(ours: Caller) -> list[bytes]:

@@ -93,14 +93,21 @@ static int copied(void)
     return got ? rattle_errno() : YES;
 }
 
+/* A number becomes a pointer in memory alone, as in the toolchain's modules. */
+static volatile char *place(int64_t at)
+{
+    volatile int64_t kept = at;
+    return *(volatile char *volatile *)&kept;
+}
+
 static int allocated(void)
 {
     struct answer few = rattle_alloc(ROOM, ROOM), none = rattle_alloc(TOO_MANY, ROOM);
     if (!few.is_there || none.is_there)
         return NO;
-    *(volatile char *)few.at = 'x';
-    struct answer more = rattle_realloc((void *)few.at, ROOM, FRAME, ROOM);
-    return more.is_there && *(volatile char *)more.at == 'x' ? YES : NO;
+    *place(few.at) = 'x';
+    struct answer more = rattle_realloc((void *)place(few.at), ROOM, FRAME, ROOM);
+    return more.is_there && *place(more.at) == 'x' ? YES : NO;
 }
 
 static int written_to_no_file(void)

@@ -21,10 +21,13 @@ import debian  # noqa: E402
 
 SHIMS = HERE / "shims"
 # as the toolchain compiles what is proved, but for the target
-FLAGS = """--no-default-config -no-canonical-prefixes -fno-crash-diagnostics -ffunction-sections -fdata-sections
-    -mllvm -trap-unreachable -c -x ir""".split()
-NATIVE = """-mllvm -no-trap-after-noreturn -mllvm -disable-machine-licm -mllvm -disable-postra-machine-licm
-    -mllvm -sink-common-insts=false""".split()
+PLAIN = "--no-default-config -no-canonical-prefixes -fno-crash-diagnostics".split()
+FLAGS = [*PLAIN, *"-ffunction-sections -fdata-sections -mllvm -trap-unreachable -c -x ir".split()]
+# what is done once for all systems with pointers of 64 bits, and what is then left to do for each
+# (with -fno-pic no table holds distances, which not each system's object files have)
+OPTIMISES = "-fno-pic -mllvm -sink-common-insts=false".split()
+OPTIMISED = "-Xclang -disable-llvm-passes".split()
+NATIVE = "-mllvm -no-trap-after-noreturn -mllvm -disable-machine-licm -mllvm -disable-postra-machine-licm".split()
 X86 = ["-mllvm", "-no-x86-call-frame-opt"]
 LEVEL = "-O1"
 C = ["-std=gnu11", "-O2", "-Wall", "-Wextra", "-Werror"]
@@ -80,34 +83,48 @@ def toolchain(name: str) -> str:
     return f"{compiling.kit()}/toolchain/bin/{name}"
 
 
-def rewritten(source: Source, rewrite: Rewriting, room: pathlib.Path) -> pathlib.Path:
-    """The module's text for another system."""
-    text, to = room / "text.ll", room / "module.ll"
-    words = ["-S", "-emit-llvm", "-x", "ir", "-Xclang", "-disable-llvm-passes"]
-    call(toolchain("clang"), f"--target={source.target}", *words, source.module, "-o", text)
-    to.write_text(rewrite(text.read_text(encoding="utf-8")), encoding="utf-8")
-    text.unlink()
+def text_of(source: Source, to: pathlib.Path, *words: str) -> None:
+    """Writes the module's text, after what these words have the compiler do with it."""
+    call(toolchain("clang"), f"--target={source.target}", *PLAIN, *words, "-S", "-emit-llvm", "-x", "ir", source.module, "-o", to)
+
+
+def optimised(source: Source) -> pathlib.Path:
+    """The module's text after those steps of the compiler that are the same for each processor with pointers of 64 bits, which
+    take most of its time. A second call waits for the first."""
+    to = source.module.with_suffix(".optimised.ll")
+    with open(f"{to}.lock", "w", encoding="utf-8") as held:
+        fcntl.flock(held, fcntl.LOCK_EX)
+        newest = max(file.stat().st_mtime for file in (source.module, HERE / "targets.py"))
+        if not to.exists() or to.stat().st_mtime < newest:
+            new = to.with_suffix(".new")
+            text_of(source, new, *OPTIMISES, LEVEL)
+            os.replace(new, to)
     return to
 
 
-def compiled(source: Source, rewrite: Rewriting, room: pathlib.Path, *flags: str) -> pathlib.Path:
-    """The object file that the module becomes for another system."""
-    made = room / "program.o"
-    call(toolchain("clang"), *flags, *FLAGS, LEVEL, rewritten(source, rewrite, room), "-o", made)
+def compiled(text: pathlib.Path, rewrite: Rewriting, room: pathlib.Path, *flags: str) -> pathlib.Path:
+    """The object file that a module's text becomes for another system."""
+    module, made = room / "module.ll", room / "program.o"
+    module.write_text(rewrite(text.read_text(encoding="utf-8")), encoding="utf-8")
+    call(toolchain("clang"), *flags, *FLAGS, LEVEL, module, "-o", made)
     return made
 
 
 def make_musl(source: Source, room: pathlib.Path, to: pathlib.Path) -> None:
-    """Links the program's own object file with musl, which gives threads 128 KB of stack unless it is told otherwise."""
+    """Links the program's own object file with musl, or compiles the module where that stands alone. musl gives threads 128 KB of
+    stack unless it is told otherwise."""
+    flags = [f"--target={LINUX}", "-fPIE", *NATIVE, *X86, *OPTIMISED]
+    made = source.object or compiled(optimised(source), str, room, *flags)
     call("musl-gcc", *C, "-c", SHIMS / "musl.c", "-o", room / "shim.o")
     links = ["-static", "-s", "-Wl,--gc-sections", "-Wl,--wrap=main", f"-Wl,-z,stack-size={STACK}", "-Wl,--build-id=none"]
-    call("musl-gcc", *links, "-o", to, source.object, room / "shim.o", f"{compiling.kit()}/c/liblibc_c.a")
+    call("musl-gcc", *links, "-o", to, made, room / "shim.o", f"{compiling.kit()}/c/liblibc_c.a")
 
 
 def make_arm64(source: Source, room: pathlib.Path, to: pathlib.Path) -> None:
     """Links the object file of the program that was proved for arm64, or compiles the module of another one for it."""
     flags = ["--target=aarch64-unknown-linux-gnu", "-fPIE", *NATIVE]
-    made = source.object if source.target == ARM64 else compiled(source, for_arm64, room, *flags)
+    own = source.object if source.target == ARM64 else None
+    made = own or compiled(optimised(source), for_arm64, room, *flags, *OPTIMISED)
     call("aarch64-linux-gnu-gcc", *C, "-c", SHIMS / "arm64.c", "-o", room / "shim.o")
     links = ["-static", "-s", "-Wl,--gc-sections", "-Wl,--wrap=main,--wrap=syscall", "-Wl,--build-id=none"]
     call("aarch64-linux-gnu-gcc", *links, "-o", to, made, room / "shim.o")
@@ -115,7 +132,7 @@ def make_arm64(source: Source, room: pathlib.Path, to: pathlib.Path) -> None:
 
 def make_windows(source: Source, room: pathlib.Path, to: pathlib.Path) -> None:
     flags = ["--target=x86_64-w64-windows-gnu", "-march=x86-64"]
-    made = compiled(source, for_windows, room, *flags, *NATIVE, *X86)
+    made = compiled(optimised(source), for_windows, room, *flags, *NATIVE, *X86, *OPTIMISED)
     call(toolchain("clang"), *flags, *FLAGS, LEVEL, SHIMS / "windows_pairs.ll", "-o", room / "pairs.o")
     call("x86_64-w64-mingw32-gcc", *C, "-c", SHIMS / "windows.c", "-o", room / "shim.o")
     links = ["-static", "-s", "-Wl,--gc-sections", f"-Wl,--stack,{STACK}", "-Wl,--no-insert-timestamp"]
@@ -126,7 +143,9 @@ def make_wasm(source: Source, room: pathlib.Path, to: pathlib.Path) -> None:
     """A program for WASI (preview 1). Its stack comes first in memory: one that is full runs out of memory's bounds, which
     stops the program."""
     features = ["-mbulk-memory", "-msign-ext", "-mnontrapping-fptoint"]
-    made = compiled(source, for_wasm32, room, "--target=wasm32-unknown-wasip1", "-Wno-override-module", *features)
+    text_of(source, room / "text.ll", "-Xclang", "-disable-llvm-passes")
+    target = ["--target=wasm32-unknown-wasip1", "-Wno-override-module"]
+    made = compiled(room / "text.ll", for_wasm32, room, *target, *features)
     clang = ["--target=wasm32-wasi", "--sysroot=/usr", "-ftls-model=local-exec", "-mbulk-memory"]
     call("clang", *clang, *C, "-c", SHIMS / "wasi.c", "-o", room / "shim.o")
     files = [WASI / "crt1-command.o", made, room / "shim.o", WASI / "libc.a", WASI_BUILTINS]
@@ -138,7 +157,7 @@ def make_macos(source: Source, room: pathlib.Path, to: pathlib.Path) -> None:
     """For macOS 11 or later on arm64, signed ad hoc by the linker. Nobody has run it."""
     clang = [toolchain("clang"), "--target=arm64-apple-macosx11.0.0", "--no-default-config", "-no-canonical-prefixes"]
     natives = ["-mllvm", "-no-trap-after-noreturn"]
-    made = compiled(source, for_macos, room, "--target=arm64-apple-macosx11.0.0", *natives)
+    made = compiled(optimised(source), for_macos, room, "--target=arm64-apple-macosx11.0.0", *natives, *OPTIMISED)
     call(*clang, *C, "-fno-builtin", "-fno-stack-protector", "-I", SHIMS, "-c", HERE / "macos/shim.c", "-o", room / "shim.o")
     links = ["-flavor", "darwin", "-arch", "arm64", "-platform_version", "macos", "11.0.0", "11.0.0", "-dead_strip"]
     call(toolchain("ld.lld"), *links, "-adhoc_codesign", "-o", to, made, room / "shim.o", HERE / "macos/libSystem.tbd")
@@ -184,7 +203,13 @@ SCRIPTS = [HERE / name for name in ("rewriting.py", "targets.py", "wasm32.py")]
 
 def is_current(made: pathlib.Path, source: Source, target: Target) -> bool:
     """Whether a program is newer than what it is made of, and than the scripts and its shims."""
-    of = [source.module, source.object, *SCRIPTS, *SHIMS.glob("*.h"), *(HERE / name for name in target.shims)]
+    of = [
+        source.module,
+        *([source.object] if source.object else []),
+        *SCRIPTS,
+        *SHIMS.glob("*.h"),
+        *(HERE / name for name in target.shims),
+    ]
     return made.exists() and made.stat().st_mtime >= max(file.stat().st_mtime for file in of)
 
 
@@ -224,9 +249,10 @@ def source_of(target: Target, kind: Kind) -> Source:
     proved_for = target.proved_for if kind == Kind.RELEASED else LINUX
     with open(OUT / f"{proved_for}.lock", "w", encoding="utf-8") as held:
         fcntl.flock(held, fcntl.LOCK_EX)
-        if kind in (Kind.UNPROVED, Kind.TRIED):
-            return (modules.linked() if kind == Kind.TRIED else None) or modules.unproved()
-        return modules.proved(proved_for)
+        if kind not in (Kind.UNPROVED, Kind.TRIED):
+            return modules.proved(proved_for)
+        found = modules.linked() if kind == Kind.TRIED else modules.unproved() if target.takes_object else None
+        return found or modules.lowered()
 
 
 def made(target: Target, kind: Kind) -> pathlib.Path:

@@ -16,8 +16,11 @@ sys.path.insert(0, str(HERE))
 import command_help  # noqa: E402
 import debian_package  # noqa: E402
 import image  # noqa: E402
+import modules  # noqa: E402
 import page  # noqa: E402
+import questions  # noqa: E402
 import targets  # noqa: E402
+import verdicts  # noqa: E402
 from rewriting import NotRewritten, for_arm64, for_macos, for_windows  # noqa: E402
 from wasm32 import for_wasm32  # noqa: E402
 
@@ -94,6 +97,13 @@ def test_pointers_of_32_bits_keep_8_bytes():
         "  %a = load [2 x ptr], ptr %b, align 8",
         "  store { ptr, i64 } %a, ptr %b, align 8",
         "  %a = getelementptr ptr, ptr %b, i64 1",
+        "  %a = getelementptr { { i8 }, ptr }, ptr %b, i64 1",
+        "  %a = inttoptr i64 %b to ptr",
+        "  %a = alloca { i8, { i8, ptr } }, align 8",
+        "  %a = load i8, ptr getelementptr inbounds ({ i64, ptr }, ptr @b, i64 0, i32 1), align 1",
+        "  call void @f(ptr sret({ ptr, i64 }) %a)",
+        "@a = private constant { ptr } { ptr @text }",
+        "@a = private constant [1 x ptr] [ptr @text]",
         "  %a = getelementptr inbounds { ptr, i64 }, ptr %b, i64 0, i32 1",
         "  %a = load atomic ptr, ptr %b seq_cst, align 8",
         "  %a = atomicrmw xchg ptr %b, ptr %c seq_cst, align 8",
@@ -109,6 +119,55 @@ def test_a_form_with_pointers_that_is_not_known(line):
 def test_a_module_without_a_target():
     with pytest.raises(NotRewritten, match="0 lines of its datalayout"):
         for_windows("define void @f() { ret void }\n")
+
+
+# ---- the verdicts on the page of proofs
+
+ONE = "logic=proved functions=1 target=x86_64-unknown-linux-gnu sum=a"
+TWO = "logic=proved functions=2 target=aarch64-unknown-linux-gnu sum=b"
+QUOTES = f"  ```text\n  {ONE}\n  ```\n\n  It is so. There is none yet for `aarch64-unknown-linux-gnu` of this version.\n- More.\n"
+
+
+def test_a_verdict_is_quoted():
+    both = verdicts.with_verdict(QUOTES, TWO)
+    assert both == f"  ```text\n  {ONE}\n  {TWO}\n  ```\n\n  It is so.\n- More.\n"
+    newer = ONE.replace("functions=1", "functions=3")
+    assert verdicts.with_verdict(both, newer) == both.replace(ONE, newer)
+    assert verdicts.with_verdict(both, TWO) == both
+
+
+@pytest.mark.parametrize("text, verdict", [("No verdict.\n", TWO), (QUOTES, "logic=proved sum=a")])
+def test_what_is_no_verdict_is_not_quoted(text, verdict):
+    with pytest.raises(ValueError):
+        verdicts.with_verdict(text, verdict)
+
+
+def test_the_page_of_proofs_quotes_verdicts():
+    text = verdicts.PAGE.read_text(encoding="utf-8")
+    quoted = {verdicts.target_of(line[0]) for line in verdicts.QUOTED.finditer(text)}
+    wanted = {target for target in (modules.LINUX, modules.ARM64) if verdicts.NONE.format(target) not in text}
+    assert quoted == wanted and modules.LINUX in quoted
+
+
+# ---- which questions are asked
+
+# two commits
+COMMITS = "5" * 40, "6" * 40
+
+
+def test_every_question_is_asked():
+    assert list(questions.in_turn(COMMITS[0], 1)) == list(questions.questions())
+
+
+@pytest.mark.parametrize("every", [8, 30])
+def test_a_commit_has_questions_of_its_own(every):
+    """About one in so many, of several commands; and other ones with another commit."""
+    whole = len(list(questions.questions()))
+    first, other = ({question.name for question in questions.in_turn(commit, every)} for commit in COMMITS)
+    assert first != other
+    for asked in (first, other):
+        assert 0.5 * whole / every < len(asked) < 1.5 * whole / every
+        assert len({name.partition(": ")[2] for name in asked if ": " in name}) > 2
 
 
 # ---- the image
@@ -179,16 +238,20 @@ def test_help_is_read():
     assert (check.about, check.example) == ("Checks a thing's parts", "taskgraph check < a.json")
 
 
-def lacks(tool: str) -> pytest.MarkDecorator:
-    return pytest.mark.skipif(not shutil.which(tool), reason=f"there is no {tool}")
+def need(tool: str, package: str) -> None:
+    """Skips a test whose tool isn't there, and can't be installed here either."""
+    if not shutil.which(tool):
+        targets.debian.install(package)
+    if not shutil.which(tool):
+        pytest.skip(f"there is no {tool}")
 
 
 def said(*words: object) -> str:
     return subprocess.run([str(word) for word in words], capture_output=True, text=True, check=True).stdout
 
 
-@lacks("groff")
 def test_the_manual_page(tmp_path):
+    need("groff", "groff")
     file = tmp_path / "taskgraph.1"
     file.write_text(command_help.files(SAID)["taskgraph.1"], encoding="utf-8")
     ran = subprocess.run(["groff", "-man", "-ww", "-Tascii", file], capture_output=True, text=True, check=True)
@@ -207,7 +270,6 @@ ASKED = [
 ]
 
 
-@lacks("bash")
 @pytest.mark.parametrize("words, expected", ASKED)
 def test_completions_of_bash(words, expected, tmp_path):
     file = tmp_path / "taskgraph.bash"
@@ -216,9 +278,9 @@ def test_completions_of_bash(words, expected, tmp_path):
     assert said("bash", "-c", script, "bash", *words).split() == expected
 
 
-@lacks("fish")
 @pytest.mark.parametrize("words, expected", ASKED)
 def test_completions_of_fish(words, expected, tmp_path):
+    need("fish", "fish")
     file = tmp_path / "taskgraph.fish"
     file.write_text(command_help.files(SAID)["taskgraph.fish"], encoding="utf-8")
     script = f"source {file}; complete -C 'taskgraph {' '.join(words)}'"
@@ -226,8 +288,8 @@ def test_completions_of_fish(words, expected, tmp_path):
     assert sorted(line.partition("\t")[0] for line in found.splitlines()) == sorted(expected)
 
 
-@lacks("zsh")
 def test_completions_of_zsh(tmp_path):
+    need("zsh", "zsh")
     file = tmp_path / "_taskgraph"
     file.write_text(command_help.files(SAID)["_taskgraph"], encoding="utf-8")
     said("zsh", "-n", file)
@@ -247,8 +309,8 @@ def test_completions_of_powershell():
 # ---- the Debian package
 
 
-@lacks("dpkg-deb")
 def test_a_debian_package(tmp_path):
+    need("dpkg-deb", "dpkg")
     program = tmp_path / "taskgraph"
     program.write_bytes(b"#!/bin/sh\necho it runs\n")
     texts = command_help.files(SAID)

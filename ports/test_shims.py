@@ -27,7 +27,8 @@ def compiled(room: pathlib.Path) -> Source:
     """The small program's module and object file, for Linux x86-64."""
     words = [targets.toolchain("clang"), f"--target={LINUX}", *FLAGS, SMALL]
     module, made = room / "small.ll", room / "small.o"
-    targets.call(*words, "-S", "-emit-llvm", "-o", module)
+    # (as it is lowered: each system's program is optimised from there)
+    targets.call(*words, "-Xclang", "-disable-llvm-passes", "-S", "-emit-llvm", "-o", module)
     targets.call(*words, "-c", "-o", made)
     # (the toolchain's modules have names for all values, and name no features of a processor)
     text = re.sub(r' "(target-features|tune-cpu)"="[^"]*"', "", module.read_text(encoding="utf-8"))

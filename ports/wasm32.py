@@ -2,7 +2,8 @@
 
 Each place in memory that holds a pointer keeps its 8 bytes: a pointer is stored as a number of 64 bits, and read as one. So
 all sizes and offsets that the toolchain wrote into the module stay right. Only what stands in a register gets narrower.
-A form that isn't known here is refused.
+A form that isn't known here is refused. The module must not be optimised before: where pointers have 64 bits the optimiser
+carries numbers in them, and they wouldn't fit.
 """
 import re
 from collections.abc import Iterator
@@ -21,9 +22,14 @@ BY_TYPE = re.compile(
     r" (\{.*?\}|\[.*?\]|<.*?>|\w+)"
 )
 EXCHANGE = re.compile(r" (cmpxchg( weak)?( volatile)?|atomicrmw( volatile)? \w+) ptr [^,]+, ptr ")
+# many pointers in one value; a number of 64 bits that goes as a pointer; memory that a call hands over by its type; and a place
+# in a constant that another type than a number's measures
+TYPED = r" x ptr\b", r"byval\(", r"sret\(", r"inalloca\(", r"elementtype\("
+FORMS = [re.compile(form) for form in (*TYPED, r"inttoptr\b", r"getelementptr[\w ]* \((?!i\d+, )")]
+# a type that has a pointer, or parts that have parts
+WIDER = re.compile(r"ptr|[{[<].*[{[<]")
 POINTER = re.compile(r"\bptr\b")
 CONSTANT = re.compile(r"(@.*? (?:constant|global) )<\{ (.*?) \}> <\{ (.*)")
-POINTER_ALONE = re.compile(r"(constant|global) ptr")
 POINTER_VALUE = re.compile(r'\bptr (?:getelementptr \(i8, ptr (?:@"[^"]*"|@[\w.]+), i64 \d+\)|@"[^"]*"|@[\w.]+|null)')
 # a text holds no pointer
 TEXT = re.compile(r'(c"[^"]*")')
@@ -34,7 +40,7 @@ SHOWN = 300
 def padded(line: str) -> str:
     """A constant, with each pointer in it padded to 8 bytes."""
     found = CONSTANT.fullmatch(line)
-    if not found or POINTER_ALONE.search(line):
+    if not found:
         raise NotRewritten(f"a constant with pointers: {line[:SHOWN]}")
     head, types, values = found.groups()
     parts = TEXT.split(values)
@@ -69,7 +75,7 @@ def read_pair(name: str, kind: str, at: str, align: str) -> Iterator[str]:
 def narrowed(line: str, number: int) -> Iterator[str]:
     """The lines that stand for a line about pointers. The number makes a name that no other line makes."""
     if line.startswith("@"):
-        yield padded(line) if re.search(r"<\{[^}]*\bptr\b", line) or POINTER_ALONE.search(line) else line
+        yield padded(line) if POINTER.search(TEXT.sub("", line)) else line
     elif found := LOAD.fullmatch(line):
         name, volatile, at, align, _ = found.groups()
         yield f"  {name}.wide = load {volatile or ''}i64, {at}{align or ''}"
@@ -83,12 +89,21 @@ def narrowed(line: str, number: int) -> Iterator[str]:
         yield f"  store {volatile or ''}i64 %wide.{number}, {at}{align or ''}"
     else:
         line = line.replace("alloca ptr", "alloca i64").replace(" ptrtoaddr ", " ptrtoint ")
-        if (found := BY_TYPE.match(line)) and "ptr" in found[1] or EXCHANGE.search(line):
+        if (found := BY_TYPE.match(line)) and WIDER.search(found[1]) or EXCHANGE.search(line):
             raise NotRewritten(line[:SHOWN])
         yield line
 
 
+def refuse_forms(text: str) -> None:
+    """Refuses a module that has one of the forms for which nothing else looks."""
+    bare = TEXT.sub("", text)
+    for form in FORMS:
+        if found := form.search(bare):
+            raise NotRewritten(bare[bare.rfind("\n", 0, found.start()) + 1 :][:SHOWN])
+
+
 def for_wasm32(text: str) -> str:
+    refuse_forms(text)
     text = targeted(PAUSE.sub("", text), "wasm32-unknown-wasi", LAYOUT)
     text = without_attributes(text, "target-cpu", "probe-stack", "stack-probe-size", "frame-pointer")
     text = with_shims(text, f"main|malloc|free|_exit|abort|{CALLS}")

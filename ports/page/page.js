@@ -30,9 +30,9 @@ async function unpacked(text) {
   return new TextDecoder().decode(await through(new DecompressionStream("deflate-raw"), bytesOf(text)));
 }
 
-async function keepInAddress(text) {
+async function addressOf(text) {
   const address = `#${await packed(text)}`;
-  history.replaceState(null, "", address.length > LONGEST_ADDRESS ? location.pathname : address);
+  return address.length > LONGEST_ADDRESS ? location.pathname : address;
 }
 
 // ---- help: what the schema says of the word at the cursor
@@ -62,6 +62,8 @@ async function program() {
 const compiled = program();
 const source = URL.createObjectURL(new Blob([find("worker").textContent], { type: "text/javascript" }));
 let worker = null;
+// how many questions were asked: while one is got ready, the next may come
+let asked = 0;
 
 function end() {
   worker?.terminate();
@@ -83,24 +85,26 @@ function show(state, { exit = null, written = "", said = "" } = {}) {
 async function ask() {
   end();
   show("asking");
+  const number = ++asked;
   const text = editor.value;
-  await keepInAddress(text);
+  const words = COMMANDS[find("command").value];
+  const address = await addressOf(text);
   const module = await compiled;
-  end();
-  const asked = new Worker(source);
+  if (number !== asked) return;
+  history.replaceState(null, "", address);
   const started = performance.now();
-  worker = asked;
+  worker = new Worker(source);
   find("stop").disabled = false;
-  asked.onmessage = ({ data }) => {
+  worker.onmessage = ({ data }) => {
     end();
     const ended = typeof data.exit === "number" ? `exit status ${data.exit}` : data.exit;
     show(`${ended}, ${Math.round(performance.now() - started)} ms`, data);
   };
-  asked.onerror = (event) => {
+  worker.onerror = (event) => {
     end();
     show(`failed: ${event.message}`, { exit: "failed" });
   };
-  asked.postMessage({ module, words: COMMANDS[find("command").value], text });
+  worker.postMessage({ module, words, text });
 }
 
 function take(text) {
