@@ -455,6 +455,8 @@ def of_path(suite, tests):
 
 # how long a call may take, and after how long its token is requested, in milliseconds; -1 stands for neither
 NEVER, SOON = -1, 500
+# a limit that is longer than the system can wait
+AGES = 10**12
 # a call that is stopped has to come back long before what it called ends, in seconds
 SLEEPS, STOPPED = 60, 20
 
@@ -531,8 +533,9 @@ def of_limits(suite, tests):
     left = [pid for pid in pids.read_text().split() if pathlib.Path(f"/proc/{pid}/cmdline").exists() and is_running(pid)]
     are_all = len(pids.read_text().split()) == len(ended)
     yield "programs that were stopped", None if are_all and not left else f"{left} still run"
-    found = of_call(suite, tests, "check", SLEEPS * 1000, SLEEPS * 1000)
-    yield "a limit that isn't reached", said_of(found, "0 accepted")
+    for limit in (SLEEPS * 1000, AGES):
+        found = of_call(suite, tests, "check", limit, SLEEPS * 1000)
+        yield f"a limit of {limit} ms, which isn't reached", said_of(found, "0 accepted")
 
 
 def is_running(pid):

@@ -145,10 +145,12 @@ namespace TaskGraph
             }
         }
 
-        /// <summary>The milliseconds that are left of a limit.</summary>
+        /// <summary>The milliseconds that are left of a limit: of a longer one than can be waited for, as many as can.</summary>
         private static int Left(TimeSpan limit, Stopwatch since)
         {
-            return limit == Timeout.InfiniteTimeSpan ? Timeout.Infinite : (int)Math.Max(0, (limit - since.Elapsed).TotalMilliseconds);
+            return limit == Timeout.InfiniteTimeSpan
+                ? Timeout.Infinite
+                : (int)Math.Max(0, Math.Min(int.MaxValue, (limit - since.Elapsed).TotalMilliseconds));
         }
 
         /// <summary>Whether a program that has closed its streams ends before the time is up.</summary>

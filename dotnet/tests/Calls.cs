@@ -12,7 +12,7 @@ namespace TaskGraph.Tests
 
         /// <summary>Writes what becomes of a call with these words, which has a limit and whose token is requested after a while, in
         /// milliseconds; -1 stands for neither. A document that is larger than what a pipe holds is sent.</summary>
-        internal static void Write(TextWriter to, string words, int limit, int requested)
+        internal static void Write(TextWriter to, string words, long limit, int requested)
         {
             Stopwatch since = Stopwatch.StartNew();
             using (var source = new CancellationTokenSource(requested))

@@ -36,7 +36,7 @@ namespace TaskGraph.Tests
                     case "members": Members.Write(to); break;
                     case "shaken": Shaking.Write(to); break;
                     case "led": Shaking.WriteLed(to); break;
-                    case "call": Calls.Write(to, words[1], int.Parse(words[2]), int.Parse(words[3])); break;
+                    case "call": Calls.Write(to, words[1], long.Parse(words[2]), int.Parse(words[3])); break;
                     default: throw new ArgumentException("no such test: " + words[0]);
                 }
             }
