@@ -22,7 +22,9 @@ KINDS = {
     "start": ("tpl_parts/specs/Start", "start"),
 }
 # the members of an object, at the place where a definition has no others; by a name they stand elsewhere
-MEMBERS = r'(?:object_of|has_only|top_names version =|row_names Wide =) ?\(?((?:codes "\w+" ∷ )+|member ∷ )(\[\]|\w+ version)'
+MEMBERS = (
+    r'(?:object_of|has_only|top_names version =|row_names WithTokens =) ?\(?((?:codes "\w+" ∷ )+|member ∷ )(\[\]|\w+ version)'
+)
 # how a member is read that may be left out
 LEFT_OUT = (
     r'(?:\w+_or_\w+(?: journal)?|else_at inner|claim_name|note_at) \(get \(codes "(\$?\w+)"\)',
@@ -158,20 +160,21 @@ def third_trees():
     """The first member of each tree that only version 3 has."""
     defined = definitions(KINDS["tree"][0])
     name = re.search(r"splits_winners rules && has_member \(codes \"(\w+)\"\)", defined["node_at"])[1]
-    assert "splits_winners Narrow = false\nsplits_winners Wide = true" in defined["splits_winners"]
+    assert "splits_winners WithoutTokens = false\nsplits_winners WithTokens = true" in defined["splits_winners"]
     return {name}
 
 
 def is_worded_in_third_only():
     """Whether a tree of version 1 or 2 is no word."""
-    return "is_least Narrow d = false" in definitions(KINDS["tree"][0])["is_least"]
+    return "is_least WithoutTokens d = false" in definitions(KINDS["tree"][0])["is_least"]
 
 
 def third_rows():
     """The members that version 3 adds to a row."""
     names = definitions(KINDS["row"][0])["row_names"]
-    narrow, wide = (words(re.search(rf"(?m)^row_names {rules} = (.*)", names)[1]) for rules in ("Narrow", "Wide"))
-    return wide - narrow
+    sets = ("WithoutTokens", "WithTokens")
+    without, with_tokens = (words(re.search(rf"(?m)^row_names {rules} = (.*)", names)[1]) for rules in sets)
+    return with_tokens - without
 
 
 def third_claims():

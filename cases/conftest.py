@@ -15,6 +15,7 @@ def pytest_addoption(parser):
     group = parser.getgroup("taskgraph")
     group.addoption("--program", type=pathlib.Path, help="the program; the script `taskgraph` at the top, if none is named")
     group.addoption("--runs", type=pathlib.Path, help="the test program of tests/sessions; the last that was built")
+    group.addoption("--release", action="store_true", help="make the page of the program as a release has it")
     group.addoption("--first", type=int, default=0, metavar="N", help="the first number by which graphs are drawn by chance")
     group.addoption("--times", type=int, default=1, metavar="N", help="draw so many times as many graphs")
 

@@ -16,7 +16,7 @@ Fact = int | str
 
 
 class Mistake(enum.Enum):
-    """A mistake that can be planted in the wider rules."""
+    """A mistake that can be planted in the rules with tokens."""
 
     OWN_TOKEN_FOR_FINAL = "the task's own token is quiet for final"
     OWN_TOKEN_FOR_OBSERVED = "the task's own token is quiet for observed"
@@ -156,7 +156,7 @@ class Paths:
 
 
 def own_tokens(graph: Graph, claim: dict, mistakes) -> set[str]:
-    """The own tokens that may be taken as quiet for a claim, by the wider rules."""
+    """The own tokens that may be taken as quiet for a claim, by the rules with tokens."""
     names = claim.get("after", [])[1:] or [claim[each_word] for each_word in ("never",) if each_word in claim]
     mistaken = {
         "final": Mistake.OWN_TOKEN_FOR_FINAL,
@@ -181,7 +181,7 @@ class Leaf:
     # of each task the ends that aren't cut off
     cut: tuple[frozenset[str], ...]
     sure: frozenset[str]
-    is_wide: bool
+    has_tokens: bool
     mistakes: frozenset[Mistake]
 
     def is_loud(self, token: str | None) -> bool:
@@ -217,7 +217,7 @@ class Leaf:
         return Rules(self, least(self))
 
 
-def assumed(graph: Graph, claim: dict, is_wide: bool, mistakes=frozenset()) -> Leaf:
+def assumed(graph: Graph, claim: dict, has_tokens: bool, mistakes=frozenset()) -> Leaf:
     """What a certificate assumes for a claim, before its splits."""
     every = frozenset(FINALS)
     leaf = Leaf(
@@ -226,10 +226,10 @@ def assumed(graph: Graph, claim: dict, is_wide: bool, mistakes=frozenset()) -> L
         frozenset(),
         tuple(every for _ in graph.tasks),
         frozenset(),
-        is_wide,
+        has_tokens,
         frozenset(mistakes),
     )
-    taken = [*claim.get("given", []), *({"quiet": token} for token in own_tokens(graph, claim, mistakes) if is_wide)]
+    taken = [*claim.get("given", []), *({"quiet": token} for token in own_tokens(graph, claim, mistakes) if has_tokens)]
     for given in taken:
         leaf = with_given(leaf, given)
     return leaf
@@ -365,7 +365,7 @@ class Rules:
         of = list(task.of)
         if task.kind == "any" and Mistake.ARGUMENT_LEFT_OUT in self.leaf.mistakes:
             of = of[1:] or of
-        if task.kind == "any" and self.leaf.is_wide:
+        if task.kind == "any" and self.leaf.has_tokens:
             of = [argument for argument in of if self.rows[argument].ends]
         each = [{argument} | self.rows[argument].past for argument in of]
         is_union = task.kind == "all" or Mistake.UNION_FOR_ANY in self.leaf.mistakes
@@ -440,7 +440,7 @@ class Rules:
     def proves_observed(self, place: int) -> bool:
         row = self.rows[place]
         is_calm = FAULTED not in row.ends or not row.runs or not self.may_throw(place)
-        return bool(row.chain) or is_calm or self.leaf.is_wide and self.is_none_complete()
+        return bool(row.chain) or is_calm or self.leaf.has_tokens and self.is_none_complete()
 
     def may_throw(self, place: int) -> bool:
         """Some path of its body ends with an exception."""

@@ -138,7 +138,7 @@ class Asked(NamedTuple):
         return self.document["claims"][0]
 
     @property
-    def is_wide(self) -> bool:
+    def has_tokens(self) -> bool:
         return self.document["version"] > 2
 
     def leaf(self, graph: Graph) -> rules.Leaf:
@@ -301,7 +301,7 @@ class Comparison:
         for it, wanted, answer in zip(asked, answers, said):
             self.counts["certificates"] += 1
             self.counts["accepted"] += answer == "accepted"
-            if wanted == "accepted" and it.is_wide:
+            if wanted == "accepted" and it.has_tokens:
                 if Asked(it.document, without_rows(it.tree)).verdict(truth.graph) != "accepted":
                     self.tell("accepted with rows, and not without:", it.text())
                 self.counts["accepted by tokens"] += tokens.verdict(truth.graph, it.claim, without_tokens(it.tree)) != wanted
@@ -321,10 +321,10 @@ class Comparison:
     def compare_versions(self, graph: Graph, asked: list[Asked]):
         """What is accepted by rules that know neither of tokens nor of winners is accepted in version 3, with the same
         certificate."""
-        narrow = [question for question in asked if not question.is_wide and question.verdict(graph) == "accepted"]
+        narrow = [question for question in asked if not question.has_tokens and question.verdict(graph) == "accepted"]
         older = [Asked({**question.document, "version": 3}, question.tree) for question in narrow]
         for question in asked:
-            tree = search(rules.assumed(graph, question.claim, True), question.claim, self.depth) if question.is_wide else None
+            tree = search(rules.assumed(graph, question.claim, True), question.claim, self.depth) if question.has_tokens else None
             older += [Asked(question.document, tree)] if tree else []
         said = self.checked(older) if self.program else ["accepted"] * len(older)
         for it, answer in zip(older, said):
@@ -334,7 +334,7 @@ class Comparison:
 
     def compare_leaves(self, graph: Graph, asked: list[Asked]):
         """Of the best certificate the same is said with rows and without."""
-        wide = [question for question in asked if question.is_wide]
+        wide = [question for question in asked if question.has_tokens]
         each = [Asked(question.document, without_rows(question.tree)) for question in wide]
         said = self.checked(each) if self.program else [question.verdict(graph) for question in each]
         for it, answer in zip(wide, said):
@@ -360,7 +360,7 @@ class Comparison:
             self.tell("found, and not accepted:", found.text())
         if not truth.holds(claim):
             self.tell("found, and there is a run in which it fails:", found.text())
-        if found.is_wide:
+        if found.has_tokens:
             self.compare_rows(found, leaf)
 
     def compare_rows(self, found: Asked, leaf: rules.Leaf):

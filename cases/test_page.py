@@ -26,6 +26,8 @@ SHOWN = """(() => {
   return /^exit status/.test(text("state")) ? [text("state"), written(), text("said")] : null;
 })()"""
 COMMAND, AS_PAGE = "verify --explain", "verify --as html"
+# so many characters take a while to be packed into an address
+LONG = 1 << 24
 # how long the page may take for an answer, and after how long it is looked at once more, in seconds
 LIMIT, PAUSE = 300, 0.02
 
@@ -54,11 +56,11 @@ class Page:
 
 
 @pytest.fixture(scope="module")
-def file(bare_program, tmp_path_factory) -> pathlib.Path:
+def file(bare_program, pytestconfig, tmp_path_factory) -> pathlib.Path:
     """The page of the program that is tested."""
     if lacking := TARGETS["wasm"].lacking():
         pytest.skip(f"{', '.join(lacking)} can't be had here")
-    kind = kind_of(bare_program.path, is_release=False)
+    kind = kind_of(bare_program.path, pytestconfig.getoption("--release")).of(TARGETS["wasm"])
     wasm = made(TARGETS["wasm"], kind).read_bytes()
     to = tmp_path_factory.mktemp("page") / "taskgraph.html"
     to.write_text(pages.page(wasm, help_of(bare_program.path), kind.value), encoding="utf-8")
@@ -143,6 +145,15 @@ def test_another_document(bare_program, page: Page, text: str):
     assert shown(page) == answered(bare_program, text)
 
 
+def test_the_last_question_is_answered(bare_program, page: Page):
+    """Also where one before it, of a long document, takes longer to get ready."""
+    text = '{"version":3,"tasks":[]}'
+    page.run(f"Promise.all([take('['.repeat({LONG})), take({json.dumps(text)})])")
+    page.until('find("stop").disabled')
+    assert shown(page) == answered(bare_program, text)
+    assert page.run("editor.value") == text
+
+
 def test_the_address_has_the_document(bare_program, page: Page, file):
     text = '{"version":3,"tasks":[{"name":"Grüße 👍","kind":"root","body":[]}],"claims":[{"never":"Grüße 👍"}]}'
     take(page, text)
@@ -173,10 +184,10 @@ def test_a_file_that_is_dropped(bare_program, page: Page):
 
 
 def test_stop(page: Page):
+    """Right after the question is asked, whose answer takes a while."""
     long = subprocess.run([TOP / "examples/pipeline", "40"], capture_output=True, text=True, check=True).stdout
-    take(page, long)
-    page.run('find("stop").click()')
-    assert page.run('[find("state").textContent, find("stop").disabled]') == ["stopped", True]
+    page.run(f"take({json.dumps(long)}).then(() => find('stop').click())")
+    assert page.run('[find("state").textContent, find("stop").disabled, worker]') == ["stopped", True, None]
     take(page, '{"version":3,"tasks":[{"name":"A","kind":"root","body":[]}],"claims":[{"runs":"A"}]}')
     assert shown(page)[0] == "exit status 0"
 

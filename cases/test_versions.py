@@ -1,4 +1,4 @@
-"""Each case of a document of version 1 or 2 is asked again as one of version 3, which has wider rules and more members.
+"""Each case of a document of version 1 or 2 is asked again as one of version 3, which has rules with tokens and more members.
 
 The answer is the same, byte for byte, but for certificates that are found, and the cases of OTHERWISE. In version 3 the leaves
 of what is found have no rows, and it may have fewer splits. In OTHERWISE a certificate is found by a wider rule, where there was
@@ -17,7 +17,7 @@ from tokens import without_rows
 VERSION = re.compile(rb'("version"\s*:\s*)[12](?=\s*[,}])')
 # these show members and certificates of version 3 beside what earlier versions say of them, and which options and limits of a
 # search decide whether a verdict is unknown
-NEW = ("wider-documents", "wider-certificates", "version3-reading", "least", "verifies")
+NEW = ("version3-documents", "token-certificates", "version3-reading", "least", "verifies")
 # a certificate is found, which `check` accepts in version 3; in the version of the case there is none
 FOUND = "found"
 # each case that is answered otherwise, and how

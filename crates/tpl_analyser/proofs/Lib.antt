@@ -1,5 +1,4 @@
 pub mod FoundLemmas
 pub mod PlanLemmas
 pub mod GapLemmas
-pub mod WideLemmas
 pub mod SlimLemmas

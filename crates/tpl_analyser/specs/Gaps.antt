@@ -3,9 +3,9 @@ use Rattle.std.specs.Prelude.{◌≡◌, ℕ, ◌+◌, ◌≤◌, ◌++◌, ◌�
 use Rattle.tpl_model.specs.declared.rule_set.RuleSet.{RuleSet}
 use Rattle.tpl_model.specs.Graph.{TaskGraph}
 use Rattle.tpl_model.specs.Claims.{Claim}
-use Rattle.tpl_model.specs.WiderRules.{WideTree}
+use Rattle.tpl_model.specs.Certificate.{Tree}
 use Rattle.tpl_laws.specs.ByRules.{AcceptsBy}
-use Rattle.tpl_trees.specs.WideHeights.{wide_height}
+use Rattle.tpl_trees.specs.Heights.{height}
 use Rattle.tpl_analyser.specs.declared.gap.Gap.{Gap}
 use Rattle.tpl_analyser.specs.declared.gap.Gap.TheVariants.{NotFound, Memory}
 
@@ -17,9 +17,9 @@ pub record IsFirstWithout (rules : RuleSet) (g : TaskGraph) (claims : List Claim
   pub behind : List Claim
   pub claims_are : claims ≡ before ++ claim ∷ behind
   pub at : number ≡ length before + 1
-  pub trees : List WideTree
+  pub trees : List Tree
   pub accepted : AcceptsBy rules g before trees
-  pub splits : All (λ tree. wide_height tree ≤ depth) trees
+  pub splits : All (λ tree. height tree ≤ depth) trees
 
 abbrev pub IsGap : RuleSet → TaskGraph → List Claim → ℕ → Gap → Type 0
 IsGap rules g claims depth (NotFound claim) = IsFirstWithout rules g claims depth claim

@@ -1,6 +1,7 @@
 pub mod Splits
 pub mod Found
-pub mod WideFound
+pub mod TokenFound
+pub mod FoundFor
 pub mod Gaps
 pub mod Questions
 pub mod Slim

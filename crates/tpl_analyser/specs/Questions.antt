@@ -5,7 +5,7 @@ use Rattle.tpl_checker.specs.Below.{AreBelow}
 use Rattle.tpl_analyser.specs.declared.question.Question.{Question}
 use Rattle.tpl_analyser.specs.Splits.{IsSplitOf}
 use Rattle.tpl_outline.specs.Stages.{IsStageOf}
-use Rattle.tpl_leaf.specs.Links.{AreLinks}
+use Rattle.tpl_token_leaf.specs.Links.{AreLinks}
 
 -- the property is one of the graph's tasks, and the rest is made of the graph
 pub record IsReady (q : Question) : Type 0 where

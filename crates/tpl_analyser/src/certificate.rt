@@ -1,12 +1,13 @@
-//! The search for a certificate by the rules that know neither of tokens nor of winners.
+//! The search for a certificate by one set of rules or the other.
 
-ghost use Rattle.std.specs.Prelude.{◌≤◌, IfOk, IfErr, IfSome, None, false, All};
-ghost use Rattle.tpl_analyser.specs.Prelude.{IsCertificateOf, IsFound, IsGap, IsSplitOf};
-ghost use Rattle.tpl_checker.specs.Prelude.{AreBelow};
+ghost use Rattle.std.specs.Prelude.{◌≡◌, ◌≤◌, IfOk, IfErr, IfSome, All};
+ghost use Rattle.tpl_analyser.specs.Prelude.{IsFound, IsFoundFor, IsGap, IsOfFormBy, IsReady, IsSplitOf};
+ghost use Rattle.tpl_checker.specs.Prelude.{AreBelow, assumed_of};
 ghost use Rattle.tpl_graph.specs.Prelude.{Fits};
-ghost use Rattle.tpl_leaf.specs.Prelude.{AreLinks};
-ghost use Rattle.tpl_model.specs.Prelude.{Accepts, assumed_for};
-ghost use Rattle.tpl_model.specs.declared.rule_set.RuleSet.TheVariants.{Narrow};
+ghost use Rattle.tpl_laws.specs.Prelude.{AcceptsBy};
+ghost use Rattle.tpl_token_leaf.specs.Prelude.{AreLinks};
+ghost use Rattle.tpl_model.specs.Prelude.{Accepts};
+ghost use Rattle.tpl_model.specs.declared.rule_set.RuleSet.TheVariants.{WithoutTokens};
 ghost use Rattle.tpl_outline.specs.Prelude.{IsStageOf};
 ghost use Rattle.tpl_trees.specs.Prelude.{height};
 
@@ -21,16 +22,17 @@ use crate::question::Question;
 use crate::split::{Split, all_splits};
 use crate::trial::Trial;
 use crate::watch::{Unwatched, Watch};
+use crate::with_tokens::tree_with_tokens;
 use std::alloc::{AllocError, Global};
-use tpl_checker::{Below, assumed_for};
+use tpl_checker::{Assumptions, Below, assumed_for};
 use tpl_graph::{Claim, Graph};
 use tpl_model::{MOST_SPLITS, MOST_TOKENS, RuleSet};
 use tpl_outline::{Followers, Stage, stages_of};
 use tpl_paths::TokenSet;
+use tpl_token_check::links;
 use tpl_trees::{Certificate, Tree};
-use tpl_wide::links;
 
-/// Searches for a certificate of the claims, each of which can be asked of the graph, by the narrow rules and with at most
+/// Searches for a certificate of the claims, each of which can be asked of the graph, by the rules without tokens and with at most
 /// `depth` splits on each path, and at most 6, whose rows say all that the rules permit. For each
 /// claim, trees with 0 splits on a path are tried first, then those with 1, and so on.
 ///
@@ -49,52 +51,53 @@ pub fn analyse(
     requires depth { depth ≤ MOST_SPLITS }
     ensures accepted { IfOk result (λ c. Accepts graph.now.graph claims.now c) }
     ensures splits { IfOk result (All (λ tree. height tree ≤ depth)) }
-    ensures gap { IfErr result (IsGap Narrow graph.now.graph claims.now depth) }
+    ensures gap { IfErr result (IsGap WithoutTokens graph.now.graph claims.now depth) }
 {
     let mut budget = Budget::new(Unwatched, Leaves::USUAL);
-    analyse_within(alloc, graph, claims, depth, Form::Full, &mut budget)
+    let rules = RuleSet::WithoutTokens;
+    analyse_by(alloc, graph, claims, rules, depth, Form::Full, &mut budget)
 }
 
-/// Searches for a certificate as [`analyse`] does, within this budget of leaves for each claim, and gives it in this form.
-/// Which claim is `NotFound` does not depend on the form; the budget then says what ran out.
-pub fn analyse_within<W: Watch>(
+/// Searches for a certificate as [`analyse`] does, by these rules and within this budget of leaves for each claim, and gives
+/// it in this form. Which claim is `NotFound` does not depend on the form; the budget then says what ran out.
+///
+/// By the rules with tokens leaves leave their rows out, but where the form asks for rows, and splits on winners are tried last.
+pub fn analyse_by<W: Watch>(
     alloc: Global,
     graph: &Graph,
     claims: &[Claim],
+    rules: RuleSet,
     depth: u8,
     form: Form,
     budget: &mut Budget<W>,
 ) -> Result<Certificate, Gap>
     requires claims { All (Fits graph.now.graph) claims.now }
     requires depth { depth ≤ MOST_SPLITS }
-    ensures accepted { IfOk result (λ c. Accepts graph.now.graph claims.now c) }
+    ensures accepted { IfOk result (λ c. AcceptsBy rules graph.now.graph claims.now c) }
     ensures splits { IfOk result (All (λ tree. height tree ≤ depth)) }
-    ensures form { IfOk result (IsCertificateOf form claims.now) }
-    ensures gap { IfErr result (IsGap Narrow graph.now.graph claims.now depth) }
+    ensures form { IfOk result (IsOfFormBy rules form claims.now) }
+    ensures gap { IfErr result (IsGap rules graph.now.graph claims.now depth) }
 {
     let below = Below::of_graph(graph);
-    let made = made_of(alloc, graph, &below, RuleSet::Narrow)?;
+    let made = made_of(alloc, graph, &below, rules)?;
     certificate_for(alloc, graph, &below, &made, claims, depth, form, budget)
 }
 
 /// What is made of a graph once for all claims.
 #[derive(Drop)]
-pub(crate) struct Made {
-    pub(crate) stages: Vec<Stage>,
-    pub(crate) followers: Followers,
+struct Made {
+    rules: RuleSet,
+    stages: Vec<Stage>,
+    followers: Followers,
     /// The splits that a search by the rules may make.
-    pub(crate) splits: Vec<Split>,
+    splits: Vec<Split>,
     /// By each token those that are requested with it.
-    pub(crate) linked: [TokenSet; MOST_TOKENS],
+    linked: [TokenSet; MOST_TOKENS],
 }
 
 /// What is made of the graph for a search by the rules.
-pub(crate) fn made_of(
-    alloc: Global,
-    graph: &Graph,
-    below: &Below,
-    rules: RuleSet,
-) -> Result<Made, AllocError>
+fn made_of(alloc: Global, graph: &Graph, below: &Below, rules: RuleSet) -> Result<Made, AllocError>
+    ensures rules { IfOk result (λ m. m.rules ≡ rules) }
     ensures stages { IfOk result (λ m. All (IsStageOf graph.now.graph) m.stages.items) }
     ensures splits { IfOk result (λ m. All (IsSplitOf graph.now.graph) m.splits.items) }
     ensures linked { IfOk result (λ m. AreLinks graph.now.graph m.linked) }
@@ -103,6 +106,7 @@ pub(crate) fn made_of(
     let followers = Followers::of_graph(alloc, graph)?;
     let splits = all_splits(alloc, graph, rules)?;
     Ok(Made {
+        rules,
         stages,
         followers,
         splits,
@@ -127,10 +131,10 @@ fn certificate_for<W: Watch>(
     requires linked { AreLinks graph.now.graph made.now.linked }
     requires claims { All (Fits graph.now.graph) claims.now }
     requires depth { depth ≤ MOST_SPLITS }
-    ensures accepted { IfOk result (λ c. Accepts graph.now.graph claims.now c) }
+    ensures accepted { IfOk result (λ c. AcceptsBy made.now.rules graph.now.graph claims.now c) }
     ensures splits { IfOk result (All (λ tree. height tree ≤ depth)) }
-    ensures form { IfOk result (IsCertificateOf form claims.now) }
-    ensures gap { IfErr result (IsGap Narrow graph.now.graph claims.now depth) }
+    ensures form { IfOk result (IsOfFormBy made.now.rules form claims.now) }
+    ensures gap { IfErr result (IsGap made.now.rules graph.now.graph claims.now depth) }
 {
     let mut trees = Vec::new(alloc);
     for at in 0..claims.len() {
@@ -159,10 +163,11 @@ fn tree_for<W: Watch>(
     requires stages { All (IsStageOf graph.now.graph) made.now.stages.items }
     requires splits { All (IsSplitOf graph.now.graph) made.now.splits.items }
     requires linked { AreLinks graph.now.graph made.now.linked }
-    ensures { IfOk result (λ found. IfSome found (IsFound graph.now.graph claim.now.body
-        form (assumed_for Narrow graph.now.graph claim.now) depth)) }
+    requires depth { depth ≤ MOST_SPLITS }
+    ensures { IfOk result (λ found. IfSome found
+        (IsFoundFor made.now.rules graph.now.graph claim.now form depth)) }
 {
-    let rules = RuleSet::Narrow;
+    let rules = made.rules;
     let assumed = assumed_for(graph, claim, rules);
     let cone = Cone::of(graph, claim.body(), &assumed, rules, &made.splits);
     let question = Question {
@@ -178,6 +183,24 @@ fn tree_for<W: Watch>(
         rules,
         trial: Trial::by(rules),
     };
+    match rules {
+        RuleSet::WithoutTokens => tree_without_tokens(alloc, question, assumed, depth, budget),
+        RuleSet::WithTokens => tree_with_tokens(alloc, question, assumed, depth, budget),
+    }
+}
+
+/// A tree by the rules that know neither of tokens nor of winners, under what is assumed at its root.
+fn tree_without_tokens<W: Watch>(
+    alloc: Global,
+    question: Question<'_>,
+    assumed: Assumptions,
+    depth: u8,
+    budget: &mut Budget<W>,
+) -> Result<Option<Tree>, AllocError>
+    requires { IsReady question }
+    ensures { IfOk result (λ found. IfSome found (IsFound question.entry.graph.now.graph
+        question.entry.property question.entry.form (assumed_of assumed) depth)) }
+{
     let root = Branch::root(question, assumed);
     match deepened(alloc, question, &root, depth, budget)? {
         None => Ok(None),

@@ -20,7 +20,7 @@ pub(crate) struct Cone {
 
 impl Cone {
     /// What bears on the property where this is assumed: tasks, how these end, and the inputs for which their bodies ask.
-    /// Who reads the exception of an observed task may ask for any input. By the wide rules the end of a task also says how
+    /// Who reads the exception of an observed task may ask for any input. By the rules with tokens the end of a task also says how
     /// the tasks ended for which it waits, and who won a WhenAny task bears on the property where that task does.
     pub(crate) fn of(
         graph: &Graph,
@@ -31,11 +31,11 @@ impl Cone {
     ) -> Cone {
         let tasks = bearing_tasks(graph, property, assumed, rules);
         match rules {
-            RuleSet::Narrow => {
+            RuleSet::WithoutTokens => {
                 let splits = bearing_splits(graph, property, &tasks, splits);
                 Cone { tasks, splits }
             }
-            RuleSet::Wide => {
+            RuleSet::WithTokens => {
                 let bearing = with_followers(graph, tasks);
                 let splits = bearing_splits(graph, property, &bearing, splits);
                 let tasks = all_tasks(graph);

@@ -15,7 +15,7 @@ use crate::search::{Reach, split};
 use crate::trial::Trial;
 use crate::watch::Watch;
 use std::alloc::{AllocError, Global};
-use tpl_trees::WideTree;
+use tpl_trees::Tree;
 
 /// The plan of a tree with as few splits on a path as one is found with: near to the claim first, then in the order of the
 /// search, and where that uses its leaves up, by a directed search.
@@ -25,7 +25,7 @@ pub(crate) fn deepened<W: Watch>(
     root: &Branch,
     depth: u8,
     budget: &mut Budget<W>,
-) -> Result<Option<WideTree>, AllocError>
+) -> Result<Option<Tree>, AllocError>
     requires { IsReady question }
     ensures { IsPlanIfAny question.entry.graph.now.graph depth result }
 {
@@ -49,7 +49,7 @@ fn near_by<W: Watch>(
     root: &Branch,
     depth: u8,
     budget: &mut Budget<W>,
-) -> Result<Option<WideTree>, AllocError>
+) -> Result<Option<Tree>, AllocError>
     requires { IsReady question }
     ensures { IsPlanIfAny question.entry.graph.now.graph depth result }
 {
@@ -69,7 +69,7 @@ fn by_near_split<W: Watch>(
     question: Question<'_>,
     root: &Branch,
     budget: &mut Budget<W>,
-) -> Result<Option<WideTree>, AllocError>
+) -> Result<Option<Tree>, AllocError>
     requires { IsReady question }
     ensures { IsPlanIfAny question.entry.graph.now.graph 1 result }
 {
@@ -95,7 +95,7 @@ fn in_order<W: Watch>(
     root: &Branch,
     depth: u8,
     budget: &mut Budget<W>,
-) -> Result<Option<WideTree>, AllocError>
+) -> Result<Option<Tree>, AllocError>
     requires { IsReady question }
     ensures { IsPlanIfAny question.entry.graph.now.graph depth result }
 {
@@ -123,7 +123,7 @@ fn by_depth<W: Watch>(
     depth: u8,
     directed: bool,
     budget: &mut Budget<W>,
-) -> Result<Option<WideTree>, AllocError>
+) -> Result<Option<Tree>, AllocError>
     requires { IsReady question }
     ensures { IsPlanIfAny question.entry.graph.now.graph depth result }
 {
@@ -151,7 +151,7 @@ fn at_depth<W: Watch>(
     reach: Reach,
     bound: &Bound,
     budget: &mut Budget<W>,
-) -> Result<Option<WideTree>, AllocError>
+) -> Result<Option<Tree>, AllocError>
     requires question { IsReady question }
     requires splits { 0 < reach.splits }
     ensures { IsPlanIfAny question.entry.graph.now.graph reach.splits result }

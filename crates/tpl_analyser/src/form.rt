@@ -6,9 +6,9 @@ ghost use Rattle.tpl_model.specs.Prelude.{mem};
 
 use std::alloc::{AllocError, Global};
 use tpl_model::{MOST_TASKS, Property, TaskSet};
-use tpl_trees::Row;
+use tpl_trees::{PlainRow, Row};
 
-/// How much the rows of a certificate say in `before` and `past`. By the wide rules a leaf may leave its rows out, and does
+/// How much the rows of a certificate say in `before` and `past`. By the rules with tokens a leaf may leave its rows out, and does
 /// so but where they are asked for.
 #[derive(Clone, Copy, Debug, Drop, PartialEq, Eq)]
 pub enum Form {
@@ -50,14 +50,16 @@ fn slim(alloc: Global, property: Property, rows: &[Row]) -> Result<Vec<Row>, All
 /// The row with only these tasks left in `before` and `past`.
 fn with_used(alloc: Global, row: &Row, used: &TaskSet) -> Result<Row, AllocError>
     ensures before { IfOk result (λ slim. (x : ℕ)
-        → mem x slim.before ≡ (mem x row.now.before && mem x used.now)) }
+        → mem x slim.row.before ≡ (mem x row.now.row.before && mem x used.now)) }
     ensures past { IfOk result (λ slim. (x : ℕ)
-        → mem x slim.past ≡ (mem x row.now.past && mem x used.now)) }
+        → mem x slim.row.past ≡ (mem x row.now.row.past && mem x used.now)) }
 {
-    let chain = row.chain().to_vec(alloc)?;
-    let before = row.before().intersection(used);
-    let past = row.past().intersection(used);
-    Ok(Row::new(row.ends(), row.runs(), before, past, chain))
+    let said = row.row();
+    let chain = said.chain().to_vec(alloc)?;
+    let before = said.before().intersection(used);
+    let past = said.past().intersection(used);
+    let kept = PlainRow::new(said.ends(), said.runs(), before, past, chain);
+    Ok(Row::new(kept, row.asked(), row.asks()))
 }
 
 /// The tasks that the proof of the property needs in `before` and `past`.

@@ -14,8 +14,8 @@ use std::alloc::{AllocError, Global};
 use tpl_checker::accepts_leaf;
 use tpl_model::TaskId;
 use tpl_outline::{least_rows, reached};
+use tpl_token_check::{Check, least_leaf_proves};
 use tpl_trees::{Node, Row, Tree, is_within_limits};
-use tpl_wide::{Check, least_leaf_proves};
 
 /// The rows of so many tasks are worked out in the time in which a leaf is tried by what becomes of tasks alone.
 const TASKS_A_LEAF: u32 = 8;

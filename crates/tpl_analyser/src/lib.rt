@@ -15,8 +15,8 @@
 //!   accepts the tree that is made, or there is none.
 //! - **The depth of a search has a type of its own**, `Depth`, 0 to 6. What is asked of a document, what a command
 //!   line says and what a reason is given for carry it, so that none of these calls has the limit as a condition.
-//!   `analyse` and `analyse_within` take a number, with the condition that it is at most 6.
-//! - **A search by the wider rules tries splits on winners last.** Few claims need one, and a WhenAny task has as
+//!   `analyse` and `analyse_by` take a number, with the condition that it is at most 6.
+//! - **A search by the rules with tokens tries splits on winners last.** Few claims need one, and a WhenAny task has as
 //!   many as there are tasks in its list.
 #![tactic(auto)]
 
@@ -42,15 +42,14 @@ mod splits;
 mod trial;
 mod watch;
 mod way;
-mod wide;
 mod win;
+mod with_tokens;
 mod written;
 
 pub use budget::{Budget, Leaves};
-pub use certificate::{analyse, analyse_within};
+pub use certificate::{analyse, analyse_by};
 pub use depth::Depth;
 pub use form::Form;
 pub use gap::Gap;
 pub use ran_out::RanOut;
 pub use watch::{Unwatched, Watch};
-pub use wide::analyse_widely;

@@ -1,11 +1,10 @@
-//! Plans of trees, and the trees that are made of them by the narrow rules.
+//! Plans of trees, and the trees that are made of them by the rules without tokens.
 
 ghost use Rattle.std.specs.Prelude.{◌≡◌, IfOk, IfSome};
 ghost use Rattle.tpl_analyser.specs.Prelude.{HasSplitsOf, IsFound, IsReady};
 ghost use Rattle.tpl_checker.specs.Prelude.{assumed_of};
 ghost use Rattle.tpl_model.specs.Prelude.{LeastLeaf, OnEnd, OnInput, OnWinner};
-ghost use Rattle.tpl_model.specs.Certificate.{SplitEnd, SplitInput};
-ghost use Rattle.tpl_trees.specs.Prelude.{wide_height};
+ghost use Rattle.tpl_trees.specs.Prelude.{height};
 
 use crate::branch::Branch;
 use crate::leaf::leaf;
@@ -13,83 +12,38 @@ use crate::question::Question;
 use crate::win::Win;
 use std::alloc::{AllocError, Global};
 use tpl_model::{Final, InputId, TaskId};
-use tpl_trees::{Node, Tree, WideNode, WideTree};
+use tpl_trees::{Node, Tree};
 
 /// The plan with no split.
-pub(crate) fn no_split() -> WideTree
+pub(crate) fn no_split() -> Tree
     ensures { result ≡ LeastLeaf }
 {
-    WideTree::new(WideNode::Least)
+    Tree::new(Node::Least)
 }
 
 /// The plan with a split on an input at its top, and these branches.
 pub(crate) fn input_plan(
     alloc: Global,
     input: InputId,
-    on_true: WideTree,
-    on_false: WideTree,
-) -> Result<WideTree, AllocError>
-    ensures { IfOk result (λ tree. tree ≡ OnInput input.0 on_true on_false) }
-{
-    let on_true = Box::new(alloc, on_true)?;
-    let on_false = Box::new(alloc, on_false)?;
-    Ok(WideTree::new(WideNode::SplitInput(input, on_true, on_false)))
-}
-
-/// The plan with a split on how a task ends at its top, and these branches.
-pub(crate) fn end_plan(
-    alloc: Global,
-    task: TaskId,
-    ran: WideTree,
-    canceled: WideTree,
-    faulted: WideTree,
-) -> Result<WideTree, AllocError>
-    ensures { IfOk result (λ tree. tree ≡ OnEnd task.0 ran canceled faulted) }
-{
-    let ran = Box::new(alloc, ran)?;
-    let canceled = Box::new(alloc, canceled)?;
-    let faulted = Box::new(alloc, faulted)?;
-    Ok(WideTree::new(WideNode::SplitEnd(task, ran, canceled, faulted)))
-}
-
-/// The plan with a split on a winner at its top, and these branches.
-pub(crate) fn winner_plan(
-    alloc: Global,
-    win: Win,
-    on_yes: WideTree,
-    on_no: WideTree,
-) -> Result<WideTree, AllocError>
-    ensures { IfOk result (λ tree. tree ≡ OnWinner win.task.0 win.argument.0 on_yes on_no) }
-{
-    let on_yes = Box::new(alloc, on_yes)?;
-    let on_no = Box::new(alloc, on_no)?;
-    let node = WideNode::SplitWinner(win.task, win.argument, on_yes, on_no);
-    Ok(WideTree::new(node))
-}
-
-/// The split on an input with these branches.
-fn input_tree(
-    alloc: Global,
-    input: InputId,
     on_true: Tree,
     on_false: Tree,
 ) -> Result<Tree, AllocError>
-    ensures { IfOk result (λ tree. tree ≡ SplitInput input.0 on_true on_false) }
+    ensures { IfOk result (λ tree. tree ≡ OnInput input.0 on_true on_false) }
 {
     let on_true = Box::new(alloc, on_true)?;
     let on_false = Box::new(alloc, on_false)?;
     Ok(Tree::new(Node::SplitInput(input, on_true, on_false)))
 }
 
-/// The split on how a task ends with these branches.
-fn end_tree(
+/// The plan with a split on how a task ends at its top, and these branches.
+pub(crate) fn end_plan(
     alloc: Global,
     task: TaskId,
     ran: Tree,
     canceled: Tree,
     faulted: Tree,
 ) -> Result<Tree, AllocError>
-    ensures { IfOk result (λ tree. tree ≡ SplitEnd task.0 ran canceled faulted) }
+    ensures { IfOk result (λ tree. tree ≡ OnEnd task.0 ran canceled faulted) }
 {
     let ran = Box::new(alloc, ran)?;
     let canceled = Box::new(alloc, canceled)?;
@@ -97,29 +51,44 @@ fn end_tree(
     Ok(Tree::new(Node::SplitEnd(task, ran, canceled, faulted)))
 }
 
-/// The tree with the splits of the plan, whose leaves have the least rows. By the narrow rules no tree splits on winners.
+/// The plan with a split on a winner at its top, and these branches.
+pub(crate) fn winner_plan(
+    alloc: Global,
+    win: Win,
+    on_yes: Tree,
+    on_no: Tree,
+) -> Result<Tree, AllocError>
+    ensures { IfOk result (λ tree. tree ≡ OnWinner win.task.0 win.argument.0 on_yes on_no) }
+{
+    let on_yes = Box::new(alloc, on_yes)?;
+    let on_no = Box::new(alloc, on_no)?;
+    let node = Node::SplitWinner(win.task, win.argument, on_yes, on_no);
+    Ok(Tree::new(node))
+}
+
+/// The tree with the splits of the plan, whose leaves have the least rows. By the rules without tokens no tree splits on winners.
 #[cycle(grown)]
 pub(crate) fn grown(
     alloc: Global,
     question: Question<'_>,
     branch: &Branch,
-    plan: &WideTree,
+    plan: &Tree,
 ) -> Result<Option<Tree>, AllocError>
     requires question { IsReady question }
     requires splits { HasSplitsOf question.graph.now.graph plan.now }
     ensures { IfOk result (λ found. IfSome found (IsFound question.entry.graph.now.graph
         question.entry.property question.entry.form (assumed_of branch.now.premises.assumptions)
-        (wide_height plan.now))) }
+        (height plan.now))) }
 {
     match plan.node() {
-        WideNode::SplitInput(input, yes, no) => {
+        Node::SplitInput(input, yes, no) => {
             grown_by_input(alloc, question, branch, *input, yes, no)
         }
-        WideNode::SplitEnd(task, ran, canceled, faulted) => {
+        Node::SplitEnd(task, ran, canceled, faulted) => {
             grown_by_end(alloc, question, branch, *task, ran, canceled, faulted)
         }
-        WideNode::SplitWinner(_, _, _, _) => Ok(None),
-        WideNode::Leaf(_) | WideNode::Least => leaf(alloc, question, branch),
+        Node::SplitWinner(_, _, _, _) => Ok(None),
+        Node::Leaf(_) | Node::Least => leaf(alloc, question, branch),
     }
 }
 
@@ -130,14 +99,14 @@ fn grown_by_input(
     question: Question<'_>,
     branch: &Branch,
     input: InputId,
-    yes: &WideTree,
-    no: &WideTree,
+    yes: &Tree,
+    no: &Tree,
 ) -> Result<Option<Tree>, AllocError>
     requires question { IsReady question }
     requires splits { HasSplitsOf question.graph.now.graph (OnInput input.0 yes.now no.now) }
     ensures { IfOk result (λ found. IfSome found (IsFound question.entry.graph.now.graph
         question.entry.property question.entry.form (assumed_of branch.now.premises.assumptions)
-        (wide_height (OnInput input.0 yes.now no.now)))) }
+        (height (OnInput input.0 yes.now no.now)))) }
 {
     question.graph.valid_law();
     let on_true = branch.with_input(question, input, true);
@@ -148,7 +117,7 @@ fn grown_by_input(
     let Some(no) = grown(alloc, question, &on_false, no)? else {
         return Ok(None);
     };
-    let tree = input_tree(alloc, input, yes, no)?;
+    let tree = input_plan(alloc, input, yes, no)?;
     Ok(Some(tree))
 }
 
@@ -159,16 +128,16 @@ fn grown_by_end(
     question: Question<'_>,
     branch: &Branch,
     task: TaskId,
-    ran: &WideTree,
-    canceled: &WideTree,
-    faulted: &WideTree,
+    ran: &Tree,
+    canceled: &Tree,
+    faulted: &Tree,
 ) -> Result<Option<Tree>, AllocError>
     requires question { IsReady question }
     requires splits { HasSplitsOf question.graph.now.graph
         (OnEnd task.0 ran.now canceled.now faulted.now) }
     ensures { IfOk result (λ found. IfSome found (IsFound question.entry.graph.now.graph
         question.entry.property question.entry.form (assumed_of branch.now.premises.assumptions)
-        (wide_height (OnEnd task.0 ran.now canceled.now faulted.now)))) }
+        (height (OnEnd task.0 ran.now canceled.now faulted.now)))) }
 {
     let on_ran = branch.with_end(question, task, Final::RanToCompletion);
     let Some(ran) = grown(alloc, question, &on_ran, ran)? else {
@@ -182,6 +151,6 @@ fn grown_by_end(
     let Some(faulted) = grown(alloc, question, &on_faulted, faulted)? else {
         return Ok(None);
     };
-    let tree = end_tree(alloc, task, ran, canceled, faulted)?;
+    let tree = end_plan(alloc, task, ran, canceled, faulted)?;
     Ok(Some(tree))
 }

@@ -5,7 +5,7 @@ ghost use Rattle.std.specs.Prelude.{◌≡◌};
 use crate::win::MOST_WINNERS;
 use tpl_checker::Assumptions;
 use tpl_model::TaskId;
-use tpl_wide::WinnerSplit;
+use tpl_token_check::WinnerSplit;
 
 /// The splits on winners above a branch, in the order in which they were made.
 #[derive(Clone, Copy)]

@@ -1,5 +1,5 @@
 //! The search for the splits of a tree: none first, then splits on inputs in order, then on tasks in order, and by the
-//! wide rules on winners, none twice on a path; only those that can lead to a tree. Rows are made once the splits are
+//! rules with tokens on winners, none twice on a path; only those that can lead to a tree. Rows are made once the splits are
 //! found.
 
 ghost use Rattle.std.specs.Prelude.{◌≡◌, ◌<◌, ◌+◌};
@@ -17,7 +17,7 @@ use crate::watch::Watch;
 use crate::win::Win;
 use std::alloc::{AllocError, Global};
 use tpl_model::{Final, InputId, TaskId};
-use tpl_trees::WideTree;
+use tpl_trees::Tree;
 
 /// How far a search may go on.
 #[derive(Clone, Copy)]
@@ -53,7 +53,7 @@ fn find<W: Watch>(
     branch: &Branch,
     reach: Reach,
     budget: &mut Budget<W>,
-) -> Result<Option<WideTree>, AllocError>
+) -> Result<Option<Tree>, AllocError>
     requires { IsReady question }
     ensures { IsPlanIfAny question.entry.graph.now.graph reach.splits result }
 {
@@ -100,7 +100,7 @@ pub(crate) fn split<W: Watch>(
     reach: Reach,
     choice: &Choice,
     budget: &mut Budget<W>,
-) -> Result<Option<WideTree>, AllocError>
+) -> Result<Option<Tree>, AllocError>
     requires question { IsReady question }
     requires splits { 0 < reach.splits }
     ensures { IsPlanIfAny question.entry.graph.now.graph reach.splits result }
@@ -127,7 +127,7 @@ fn by_split<W: Watch>(
     reach: Reach,
     split: Split,
     budget: &mut Budget<W>,
-) -> Result<Option<WideTree>, AllocError>
+) -> Result<Option<Tree>, AllocError>
     requires question { IsReady question }
     requires splits { 0 < reach.splits }
     requires split { IsSplitOf question.graph.now.graph split }
@@ -149,7 +149,7 @@ fn by_input<W: Watch>(
     reach: Reach,
     input: InputId,
     budget: &mut Budget<W>,
-) -> Result<Option<WideTree>, AllocError>
+) -> Result<Option<Tree>, AllocError>
     requires question { IsReady question }
     requires splits { 0 < reach.splits }
     requires input { input.0 < question.graph.now.graph.inputs }
@@ -178,7 +178,7 @@ fn by_end<W: Watch>(
     reach: Reach,
     task: TaskId,
     budget: &mut Budget<W>,
-) -> Result<Option<WideTree>, AllocError>
+) -> Result<Option<Tree>, AllocError>
     requires question { IsReady question }
     requires splits { 0 < reach.splits }
     requires task { is_task question.graph.now.graph task.0 }
@@ -210,7 +210,7 @@ fn by_winner<W: Watch>(
     reach: Reach,
     win: Win,
     budget: &mut Budget<W>,
-) -> Result<Option<WideTree>, AllocError>
+) -> Result<Option<Tree>, AllocError>
     requires question { IsReady question }
     requires splits { 0 < reach.splits }
     ensures { IsPlanIfAny question.entry.graph.now.graph reach.splits result }

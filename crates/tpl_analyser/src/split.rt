@@ -36,7 +36,7 @@ pub(crate) enum Turn {
     Winner(Win, bool),
 }
 
-/// All splits of a graph by the rules in the order of the search: inputs, then ends of tasks, then by the wide rules
+/// All splits of a graph by the rules in the order of the search: inputs, then ends of tasks, then by the rules with tokens
 /// winners, as they are declared.
 pub(crate) fn all_splits(
     alloc: Global,
@@ -50,7 +50,7 @@ pub(crate) fn all_splits(
         splits.push(Split::Input(InputId(input as u8)))?;
     }
     push_ends(&mut splits, graph)?;
-    if rules == RuleSet::Wide {
+    if rules == RuleSet::WithTokens {
         push_winners(alloc, &mut splits, graph)?;
     }
     Ok(splits)

@@ -8,7 +8,7 @@ pub(crate) enum Trial {
     /// By what becomes of tasks alone, which takes less time and finds fewer trees. What is found is checked by the
     /// rules that judge the claim.
     Quick,
-    /// With all that their least rows say by the wide rules.
+    /// With all that their least rows say by the rules with tokens.
     Whole,
 }
 
@@ -16,8 +16,8 @@ impl Trial {
     /// How leaves are tried that the rules judge, while there is time.
     pub(crate) fn by(rules: RuleSet) -> Trial {
         match rules {
-            RuleSet::Narrow => Trial::Quick,
-            RuleSet::Wide => Trial::Whole,
+            RuleSet::WithoutTokens => Trial::Quick,
+            RuleSet::WithTokens => Trial::Whole,
         }
     }
 }

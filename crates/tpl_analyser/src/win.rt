@@ -1,7 +1,7 @@
 //! Who wins the WhenAny tasks of a graph.
 
 use tpl_model::TaskId;
-use tpl_wide::WinnerSplit;
+use tpl_token_check::WinnerSplit;
 
 /// The most splits on winners that a search makes (this program's own limit).
 pub(crate) const MOST_WINNERS: usize = 64;

@@ -3,8 +3,8 @@
 ghost use Rattle.std.specs.Prelude.{◌≡◌, ◌<◌, IfOk};
 ghost use Rattle.tpl_analyser.specs.Prelude.{HasAllRows, HasLeavesOf, HasNoRows, HasSplitsOf};
 ghost use Rattle.tpl_model.specs.Prelude.{OnEnd, OnInput, OnWinner};
-ghost use Rattle.tpl_trees.specs.Prelude.{wide_height};
-ghost use Rattle.tpl_wide.specs.Prelude.{IsCheck, graph_in};
+ghost use Rattle.tpl_trees.specs.Prelude.{height};
+ghost use Rattle.tpl_token_check.specs.Prelude.{IsCheck, graph_in};
 
 use crate::form::Form;
 use crate::plan::{end_plan, input_plan, winner_plan};
@@ -12,8 +12,8 @@ use crate::win::Win;
 use std::alloc::{AllocError, Global};
 use tpl_checker::Assumptions;
 use tpl_model::{Final, InputId, TaskId};
-use tpl_trees::{WideNode, WideTree};
-use tpl_wide::{Check, WinnerSplit, rows_left_out, with_split};
+use tpl_token_check::{Check, WinnerSplit, rows_left_out, with_split};
+use tpl_trees::{Node, Tree};
 
 /// The tree of a plan in this form.
 pub(crate) fn in_form(
@@ -21,12 +21,12 @@ pub(crate) fn in_form(
     check: &Check<'_>,
     assumed: &Assumptions,
     form: Form,
-    plan: WideTree,
-) -> Result<WideTree, AllocError>
+    plan: Tree,
+) -> Result<Tree, AllocError>
     requires check { IsCheck check.now }
     requires splits { HasSplitsOf (graph_in check.now) plan }
     requires rows { HasNoRows plan }
-    ensures height { IfOk result (λ tree. wide_height tree ≡ wide_height plan) }
+    ensures height { IfOk result (λ tree. height tree ≡ height plan) }
     ensures leaves { IfOk result (HasLeavesOf form) }
 {
     match form {
@@ -42,32 +42,32 @@ fn with_rows(
     check: &Check<'_>,
     assumed: &Assumptions,
     winners: &[WinnerSplit],
-    plan: &WideTree,
-) -> Result<WideTree, AllocError>
+    plan: &Tree,
+) -> Result<Tree, AllocError>
     requires check { IsCheck check.now }
     requires splits { HasSplitsOf (graph_in check.now) plan.now }
-    ensures height { IfOk result (λ tree. wide_height tree ≡ wide_height plan.now) }
+    ensures height { IfOk result (λ tree. height tree ≡ height plan.now) }
     ensures leaves { IfOk result HasAllRows }
 {
     match plan.node() {
-        WideNode::SplitInput(input, yes, no) => {
+        Node::SplitInput(input, yes, no) => {
             by_input(alloc, check, assumed, winners, *input, yes, no)
         }
-        WideNode::SplitEnd(task, ran, canceled, faulted) => {
+        Node::SplitEnd(task, ran, canceled, faulted) => {
             by_end(
                 alloc, check, assumed, winners, *task, ran, canceled, faulted,
             )
         }
-        WideNode::SplitWinner(task, argument, yes, no) => {
+        Node::SplitWinner(task, argument, yes, no) => {
             let win = Win {
                 task: *task,
                 argument: *argument,
             };
             by_winner(alloc, check, assumed, winners, win, yes, no)
         }
-        WideNode::Leaf(_) | WideNode::Least => {
+        Node::Leaf(_) | Node::Least => {
             let rows = rows_left_out(alloc, check, assumed, winners)?;
-            Ok(WideTree::new(WideNode::Leaf(rows)))
+            Ok(Tree::new(Node::Leaf(rows)))
         }
     }
 }
@@ -80,13 +80,13 @@ fn by_input(
     assumed: &Assumptions,
     winners: &[WinnerSplit],
     input: InputId,
-    yes: &WideTree,
-    no: &WideTree,
-) -> Result<WideTree, AllocError>
+    yes: &Tree,
+    no: &Tree,
+) -> Result<Tree, AllocError>
     requires check { IsCheck check.now }
     requires splits { HasSplitsOf (graph_in check.now) (OnInput input.0 yes.now no.now) }
-    ensures height { IfOk result (λ tree. wide_height tree
-        ≡ wide_height (OnInput input.0 yes.now no.now)) }
+    ensures height { IfOk result (λ tree. height tree
+        ≡ height (OnInput input.0 yes.now no.now)) }
     ensures leaves { IfOk result HasAllRows }
 {
     check.graph().valid_law();
@@ -105,15 +105,15 @@ fn by_end(
     assumed: &Assumptions,
     winners: &[WinnerSplit],
     task: TaskId,
-    ran: &WideTree,
-    canceled: &WideTree,
-    faulted: &WideTree,
-) -> Result<WideTree, AllocError>
+    ran: &Tree,
+    canceled: &Tree,
+    faulted: &Tree,
+) -> Result<Tree, AllocError>
     requires check { IsCheck check.now }
     requires splits { HasSplitsOf (graph_in check.now)
         (OnEnd task.0 ran.now canceled.now faulted.now) }
-    ensures height { IfOk result (λ tree. wide_height tree
-        ≡ wide_height (OnEnd task.0 ran.now canceled.now faulted.now)) }
+    ensures height { IfOk result (λ tree. height tree
+        ≡ height (OnEnd task.0 ran.now canceled.now faulted.now)) }
     ensures leaves { IfOk result HasAllRows }
 {
     check.graph().valid_law();
@@ -134,14 +134,14 @@ fn by_winner(
     assumed: &Assumptions,
     winners: &[WinnerSplit],
     win: Win,
-    yes: &WideTree,
-    no: &WideTree,
-) -> Result<WideTree, AllocError>
+    yes: &Tree,
+    no: &Tree,
+) -> Result<Tree, AllocError>
     requires check { IsCheck check.now }
     requires splits { HasSplitsOf (graph_in check.now)
         (OnWinner win.task.0 win.argument.0 yes.now no.now) }
-    ensures height { IfOk result (λ tree. wide_height tree
-        ≡ wide_height (OnWinner win.task.0 win.argument.0 yes.now no.now)) }
+    ensures height { IfOk result (λ tree. height tree
+        ≡ height (OnWinner win.task.0 win.argument.0 yes.now no.now)) }
     ensures leaves { IfOk result HasAllRows }
 {
     let on_yes = with_split(alloc, winners, win.task, win.argument, true)?;

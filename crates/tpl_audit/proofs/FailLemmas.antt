@@ -23,8 +23,7 @@ use Rattle.tpl_audit.specs.declared.verdict.Failure.{Failure}
 use Rattle.tpl_audit.specs.Audit.{first_events, AllHoldAt, IsFirstFailure, FirstFails, better, IsVerdict, FindsNoFailure}
 use Rattle.tpl_audit.specs.declared.verdict.Verdict.{Verdict}
 use Rattle.tpl_audit.specs.declared.verdict.Verdict.TheVariants.{Run as Ran, NotAllowed, Memory}
-use Rattle.tpl_model.specs.Certificate.{given_sure}
-use Rattle.tpl_model.specs.WiderRules.{WideTree}
+use Rattle.tpl_model.specs.Certificate.{given_sure, Tree}
 use Rattle.tpl_model.specs.declared.rule_set.RuleSet.{RuleSet}
 use Rattle.tpl_laws.specs.ByRules.{AcceptsBy, SoundByRules}
 use Rattle.tpl_laws.specs.Soundness.{Each}
@@ -153,7 +152,7 @@ front_run g v events p prefix run =
     let parts : reverse (drop p events) ++ first_events events p ≡ reverse events = sym (reverse-append (take p events) (drop p events)) ∙ ap reverse (take-append-drop p events) in
     prefix g v (reverse (drop p events)) (first_events events p) (subst (Run g v) (sym parts) run)
 
-pub sound_verdict : (rules : RuleSet) (g : TaskGraph) (v : List Bool) (events : List Event) (claims : List Claim) (ended : List (TaskId × Final)) (verdict : Verdict) (certificate : List WideTree) → SoundByRules → PrefixIsRun → IsGraph g → IsVerdict g v events claims ended verdict → AcceptsBy rules g claims certificate → FindsNoFailure verdict
+pub sound_verdict : (rules : RuleSet) (g : TaskGraph) (v : List Bool) (events : List Event) (claims : List Claim) (ended : List (TaskId × Final)) (verdict : Verdict) (certificate : List Tree) → SoundByRules → PrefixIsRun → IsGraph g → IsVerdict g v events claims ended verdict → AcceptsBy rules g claims certificate → FindsNoFailure verdict
 sound_verdict rules g v events claims ended (Ran complete None other_end) certificate sound prefix valid is accepted = refl
 sound_verdict rules g v events claims ended (Ran complete (Some failure) other_end) certificate sound prefix valid is accepted =
     let f = is.failure in

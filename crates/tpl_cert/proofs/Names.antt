@@ -1,7 +1,6 @@
 -- The names of a tree, one after another.
 use Rattle.std.proofs.Common.{◌≡◌, ℕ, zero, suc, ◌<◌, ◌&&◌, ◌||◌, List, [], ◌∷◌, ◌++◌, length, get_or, map, Bool, true, false, Some, Ok, ok_or, nat_eq, refl, sym, ap, ◌∙◌, arith}
-use Rattle.std.specs.List.{All, list_all}
-use Rattle.std.proofs.lemmas.List.Elements.{All-nil, All-cons, All-head, All-tail}
+use Rattle.std.specs.List.{list_all}
 use Rattle.std.proofs.lemmas.Nat.Bits.{bit_at-zero}
 use Rattle.std.proofs.lemmas.List.Quantifiers.{position-Some}
 use Rattle.std.specs.Str.{bytes_eq}
@@ -9,23 +8,14 @@ use Rattle.tpl_model.proofs.SetLists.{mem_within, sets_lem, mem-passing_from, pa
 use Rattle.tpl_model.proofs.Truths.{same_tests}
 use Rattle.tpl_model.specs.Members.{mem}
 use Rattle.tpl_model.specs.TaskSet.{IsTaskSet}
-use Rattle.tpl_model.specs.Certificate.{Row}
-use Rattle.tpl_draft.specs.Named.{Names}
-use Rattle.tpl_json.specs.declared.miss.Miss.{Miss}
-use Rattle.tpl_json.specs.declared.miss.Miss.TheVariants as miss
-use Rattle.tpl_json.specs.Passes.{Fails}
 use Rattle.tpl_json.proofs.Passes.{each_empty, or_ok}
 use Rattle.tpl_paths.specs.declared.token_set.TokenSet.{TokenSet}
 use Rattle.tpl_paths.specs.TokenSet.{has_token, no_tokens}
 use Rattle.tpl_trees.specs.Sets.{as_set, IsSet}
-use Rattle.tpl_trees.specs.WideCoding.{tokens_in}
+use Rattle.tpl_trees.specs.Coding.{tokens_in}
 use Rattle.tpl_trees.proofs.TokenLists.{tokens_are}
-use Rattle.tpl_cert.specs.NamedTrees.{NamedRow}
-use Rattle.tpl_cert.specs.Plain.{IsPlainRow}
-use Rattle.tpl_cert.specs.declared.fault.TreeFault.{TreeFault}
 use Rattle.tpl_cert.specs.declared.fault.TreeFault.TheVariants.{Unknown}
-use Rattle.tpl_cert.specs.Written.{bare}
-use Rattle.tpl_cert.specs.Naming.{number_of, number_in, numbers_in, set_in, row_in, wide_row_in}
+use Rattle.tpl_cert.specs.Naming.{number_of, number_in, numbers_in, set_in}
 
 pub list_all_stops : {X Y : Type 0} (p : Y → Bool) (g : X → Y) (xs : List X) (i : ℕ) (d : X) → i < length xs → p (g (get_or xs i d)) ≡ false → list_all p (map g xs) ≡ false
 list_all_stops p g [] i d lt h = absurd (omega arith)
@@ -95,25 +85,6 @@ tasks_collected names texts set ascends is = rw (is.named, set_is is.numbers set
 pub tokens_collected : (names texts : List (List ℕ)) (set : TokenSet) → Collects names texts (has_token set) → set_in 32 names texts ≡ Ok (tokens_in set)
 tokens_collected names texts set is = rw (is.named, tokens_are is.numbers set is.members) refl
 
--- ---- rows
-
-no_tokens_named : (names : List (List ℕ)) → set_in 32 names [] ≡ Ok []
-no_tokens_named names = rw (each_empty (λ n text. ok_or (number_of names text) Unknown) 1) refl
-
-pub bare_row : (n : Names) (s : NamedRow) (r : Row) → IsPlainRow s → row_in n s ≡ Ok r → wide_row_in n s ≡ Ok (bare r)
-unfolding wide_row_in
-bare_row n s r plain e = rw (e, plain.0, plain.1, no_tokens_named n.tokens) refl
-
-pub bare_fails : (n : Names) (s : NamedRow) (e : Miss TreeFault) → Fails e (row_in n s) → Fails e (wide_row_in n s)
-unfolding wide_row_in
-bare_fails n s (miss.Wrong fault) h = rw h refl
-bare_fails n s miss.Memory h = tt
-
 -- the empty set has no token
 pub none_has : (k : ℕ) → has_token no_tokens k ≡ false
 none_has k = rw (bit_at-zero k) refl
-
--- the rows of a plain leaf, as they lie in memory
-pub rows_plain : {X : Type 0} (g : X → NamedRow) (xs : List X) → All IsPlainRow (map g xs) → All (λ x. IsPlainRow (g x)) xs
-rows_plain g [] all = All-nil (λ x. IsPlainRow (g x))
-rows_plain g (x ∷ xs) all = All-cons (λ x. IsPlainRow (g x)) x xs (All-head IsPlainRow (g x) (map g xs) all) (rows_plain g xs (All-tail IsPlainRow (g x) (map g xs) all))

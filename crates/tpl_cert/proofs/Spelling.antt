@@ -2,14 +2,14 @@
 use Rattle.std.proofs.Common.{◌≡◌, ◌⊎◌, inl, inr, true, false, Some, Ok, Err, refl}
 use Rattle.serde_json.specs.Data.{Data}
 use Rattle.tpl_model.specs.declared.rule_set.RuleSet.{RuleSet}
-use Rattle.tpl_model.specs.WiderRules.{WideTree}
+use Rattle.tpl_model.specs.Certificate.{Tree}
 use Rattle.tpl_draft.specs.Named.{Names}
 use Rattle.tpl_json.specs.declared.miss.Miss.{Miss}
 use Rattle.tpl_json.specs.declared.miss.Miss.TheVariants as miss
 use Rattle.tpl_json.specs.declared.miss.Shape as declared
 use Rattle.tpl_json.specs.Members.{Misses}
 use Rattle.tpl_json.specs.Passes.{Fails}
-use Rattle.tpl_trees.specs.WideHeights.{is_within_limits}
+use Rattle.tpl_trees.specs.Heights.{is_within_limits}
 use Rattle.tpl_cert.specs.NamedTrees.{NamedTree}
 use Rattle.tpl_cert.specs.Faults.{shape_fault, tree_fault}
 use Rattle.tpl_cert.specs.Naming.{tree_in}
@@ -33,10 +33,10 @@ module _ (rules : RuleSet) (n : Names) (d : Data) where
     misnamed miss.Memory unknown = inl refl
 
     -- the limits decide
-    pub read_within_them : (t : WideTree) → tree_in n named ≡ Ok t → is_within_limits t ≡ true → read_tree rules n d ≡ Ok t
+    pub read_within_them : (t : Tree) → tree_in n named ≡ Ok t → is_within_limits t ≡ true → read_tree rules n d ≡ Ok t
     unfolding spelled_tree read_tree
     read_within_them t is within = rw (spells, is, within) refl
 
-    pub past_them : (t : WideTree) → tree_in n named ≡ Ok t → is_within_limits t ≡ false → read_tree rules n d ≡ Err Limit
+    pub past_them : (t : Tree) → tree_in n named ≡ Ok t → is_within_limits t ≡ false → read_tree rules n d ≡ Err Limit
     unfolding spelled_tree read_tree
     past_them t is past = rw (spells, is, past) refl

@@ -11,10 +11,10 @@ use Rattle.serde_json.specs.Read.{of_json, of_items, read, max_depth}
 use Rattle.serde_json.specs.View.{items_of}
 use Rattle.serde_json.specs.Written.{outline, items_outline, members_outline}
 use Rattle.tpl_model.specs.declared.rule_set.RuleSet.{RuleSet}
-use Rattle.tpl_model.specs.declared.rule_set.RuleSet.TheVariants.{Narrow, Wide}
-use Rattle.tpl_model.specs.WiderRules.{WideRow, WideTree, OnInput, OnEnd, OnWinner, WideLeaf, LeastLeaf}
+use Rattle.tpl_model.specs.declared.rule_set.RuleSet.TheVariants.{WithoutTokens, WithTokens}
+use Rattle.tpl_model.specs.Certificate.{Row, Tree, OnInput, OnEnd, OnWinner, RowsLeaf, LeastLeaf}
 use Rattle.tpl_draft.specs.Named.{Names}
-use Rattle.tpl_trees.specs.WideHeights.{wide_height}
+use Rattle.tpl_trees.specs.Heights.{height}
 use Rattle.tpl_cert.specs.Written.{words_of, name_at, row_data, tree_data, certificate_data}
 use Rattle.tpl_cert.proofs.Nesting.{certificate_depth}
 
@@ -39,23 +39,23 @@ texts_read : (texts : List (List ℕ)) → of_items (items_outline (items_of (ma
 texts_read [] = refl
 texts_read (text ∷ texts) = rw (texts_read texts) refl
 
-row_read : (rules : RuleSet) (n : Names) (r : WideRow) → of_json (outline (row_data rules n r)) ≡ Some (row_data rules n r)
-row_read Narrow n r = rw (texts_read (map (name_at n.tasks) r.row.before), texts_read (map (name_at n.tasks) r.row.chain), texts_read (words_of r.row.ends), texts_read (map (name_at n.tasks) r.row.past)) refl
-row_read Wide n r =
+row_read : (rules : RuleSet) (n : Names) (r : Row) → of_json (outline (row_data rules n r)) ≡ Some (row_data rules n r)
+row_read WithoutTokens n r = rw (texts_read (map (name_at n.tasks) r.row.before), texts_read (map (name_at n.tasks) r.row.chain), texts_read (words_of r.row.ends), texts_read (map (name_at n.tasks) r.row.past)) refl
+row_read WithTokens n r =
     rw (texts_read (map (name_at n.tokens) r.asked), texts_read (map (name_at n.tokens) r.asks), texts_read (map (name_at n.tasks) r.row.before), texts_read (map (name_at n.tasks) r.row.chain), texts_read (words_of r.row.ends), texts_read (map (name_at n.tasks) r.row.past)) refl
 
-rows_read : (rules : RuleSet) (n : Names) (rows : List WideRow) → of_items (items_outline (items_of (map (row_data rules n) rows))) ≡ Some (items_of (map (row_data rules n) rows))
+rows_read : (rules : RuleSet) (n : Names) (rows : List Row) → of_items (items_outline (items_of (map (row_data rules n) rows))) ≡ Some (items_of (map (row_data rules n) rows))
 rows_read rules n [] = refl
 rows_read rules n (r ∷ rows) = rw (row_read rules n r, rows_read rules n rows) refl
 
-tree_read : (rules : RuleSet) (n : Names) (t : WideTree) → of_json (outline (tree_data rules n t)) ≡ Some (tree_data rules n t)
+tree_read : (rules : RuleSet) (n : Names) (t : Tree) → of_json (outline (tree_data rules n t)) ≡ Some (tree_data rules n t)
 tree_read rules n (OnInput i a b) = rw (tree_read rules n a, tree_read rules n b) refl
 tree_read rules n (OnEnd t a b c) = rw (tree_read rules n a, tree_read rules n b, tree_read rules n c) refl
 tree_read rules n (OnWinner t x a b) = rw (tree_read rules n a, tree_read rules n b) refl
-tree_read rules n (WideLeaf rows) = rw (rows_read rules n rows) refl
+tree_read rules n (RowsLeaf rows) = rw (rows_read rules n rows) refl
 tree_read rules n LeastLeaf = refl
 
-trees_read : (rules : RuleSet) (n : Names) (trees : List WideTree) → of_items (items_outline (items_of (map (tree_data rules n) trees))) ≡ Some (items_of (map (tree_data rules n) trees))
+trees_read : (rules : RuleSet) (n : Names) (trees : List Tree) → of_items (items_outline (items_of (map (tree_data rules n) trees))) ≡ Some (items_of (map (tree_data rules n) trees))
 trees_read rules n [] = refl
 trees_read rules n (t ∷ trees) = rw (tree_read rules n t, trees_read rules n trees) refl
 
@@ -63,7 +63,7 @@ trees_read rules n (t ∷ trees) = rw (tree_read rules n t, trees_read rules n t
 abbrev whole : Option (Json × List Token) → Option Data
 whole parsed = option_and_then of_json (option_and_then (λ p. if_last p.0 p.1) parsed)
 
-pub certificate_read : (rules : RuleSet) (n : Names) (trees : List WideTree) (text : List ℕ) → All (λ t. wide_height t ≤ 6) trees → tokens text ≡ json.json_tokens (outline (certificate_data rules n trees)) → read text ≡ Some (certificate_data rules n trees)
+pub certificate_read : (rules : RuleSet) (n : Names) (trees : List Tree) (text : List ℕ) → All (λ t. height t ≤ 6) trees → tokens text ≡ json.json_tokens (outline (certificate_data rules n trees)) → read text ≡ Some (certificate_data rules n trees)
 certificate_read rules n trees text low same =
     let d = certificate_data rules n trees in
     let shallow : json.depth (outline d) ≤ max_depth = subst (λ (m : ℕ). m ≤ max_depth) (sym (outline_depth d)) (certificate_depth rules n trees low) in

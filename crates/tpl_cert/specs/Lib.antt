@@ -1,6 +1,5 @@
 pub mod Faults
 pub mod NamedTrees
-pub mod Plain
 pub mod Reading
 pub mod Seen
 pub mod Naming

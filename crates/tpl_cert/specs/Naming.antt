@@ -3,8 +3,7 @@ use Rattle.std.specs.Prelude.{ℕ, Bool, List, Option, is_some, Result, Ok, ok_o
 use Rattle.std.specs.List.{position}
 use Rattle.std.specs.Str.{bytes_eq}
 use Rattle.tpl_model.specs.declared.limits.TheConstants.{MOST_TASKS, MOST_TOKENS}
-use Rattle.tpl_model.specs.Certificate.{Row}
-use Rattle.tpl_model.specs.WiderRules.{WideRow, WideTree, OnInput, OnEnd, OnWinner, WideLeaf, LeastLeaf}
+use Rattle.tpl_model.specs.Certificate.{Row, Tree, OnInput, OnEnd, OnWinner, RowsLeaf, LeastLeaf}
 use Rattle.tpl_draft.specs.Named.{Names}
 use Rattle.tpl_json.specs.Passes.{◌>>=◌, each_from, all_or}
 use Rattle.tpl_trees.specs.Sets.{as_set}
@@ -32,28 +31,22 @@ set_in most names texts = do
   ns ← numbers_in names texts
   Ok (as_set most ns)
 
--- a row, without its tokens
+-- a row
 unfoldable pub row_in : Names → NamedRow → Result Row TreeFault
 row_in n r = do
   before ← set_in MOST_TASKS n.tasks r.before
   past ← set_in MOST_TASKS n.tasks r.past
   chain ← numbers_in n.tasks r.chain
-  Ok (record { ends = r.ends; runs = r.runs; before = before; past = past; chain = chain })
-
--- a row
-unfoldable pub wide_row_in : Names → NamedRow → Result WideRow TreeFault
-wide_row_in n r = do
-  row ← row_in n r
   asked ← set_in MOST_TOKENS n.tokens r.asked
   asks ← set_in MOST_TOKENS n.tokens r.asks
-  Ok (record { row = row; asked = asked; asks = asks })
+  Ok (record { row = record { ends = r.ends; runs = r.runs; before = before; past = past; chain = chain }; asked = asked; asks = asks })
 
 -- the rows of a leaf
-abbrev pub wide_rows_in : Names → List NamedRow → Result (List WideRow) TreeFault
-wide_rows_in n rows = each_from (λ k r. wide_row_in n r) 1 rows
+abbrev pub rows_in : Names → List NamedRow → Result (List Row) TreeFault
+rows_in n rows = each_from (λ k r. row_in n r) 1 rows
 
 -- a tree
-unfoldable pub tree_in : Names → NamedTree → Result WideTree TreeFault
+unfoldable pub tree_in : Names → NamedTree → Result Tree TreeFault
 tree_in n (SplitInput name a b) = do
   input ← number_in n.inputs name
   on_true ← tree_in n a
@@ -72,6 +65,6 @@ tree_in n (SplitWinner name other a b) = do
   on_no ← tree_in n b
   Ok (OnWinner task argument on_yes on_no)
 tree_in n (Leaf rows) = do
-  rows ← wide_rows_in n rows
-  Ok (WideLeaf rows)
+  rows ← rows_in n rows
+  Ok (RowsLeaf rows)
 tree_in n Least = Ok LeastLeaf

@@ -4,15 +4,15 @@ use Rattle.std.specs.Str.{bytes_eq}
 use Rattle.serde_json.specs.Data.{Data, depth}
 use Rattle.serde_json.specs.Find.{get, as_str}
 use Rattle.tpl_model.specs.declared.rule_set.RuleSet.{RuleSet}
-use Rattle.tpl_model.specs.declared.rule_set.RuleSet.TheVariants.{Narrow, Wide}
+use Rattle.tpl_model.specs.declared.rule_set.RuleSet.TheVariants.{WithoutTokens, WithTokens}
 use Rattle.tpl_json.specs.Members.{◌>>=◌, ◌<$>◌, ◌<*>◌, only_if, has_only, object_of, has_member, text_in, bool_in, list_in, each, texts_in}
 use Rattle.tpl_json.specs.Finals.{no_finals, finals_at}
 use Rattle.tpl_cert.specs.NamedTrees.{NamedRow, NamedTree, SplitInput, SplitEnd, SplitWinner, Leaf, Least}
 
--- the members of a row: by the wide rules it speaks of tokens too
+-- the members of a row: by the rules with tokens it speaks of tokens too
 abbrev pub row_names : RuleSet → List (List ℕ)
-row_names Narrow = codes "ends" ∷ codes "runs" ∷ codes "before" ∷ codes "past" ∷ codes "chain" ∷ []
-row_names Wide = codes "ends" ∷ codes "runs" ∷ codes "before" ∷ codes "past" ∷ codes "chain" ∷ codes "asked" ∷ codes "asks" ∷ []
+row_names WithoutTokens = codes "ends" ∷ codes "runs" ∷ codes "before" ∷ codes "past" ∷ codes "chain" ∷ []
+row_names WithTokens = codes "ends" ∷ codes "runs" ∷ codes "before" ∷ codes "past" ∷ codes "chain" ∷ codes "asked" ∷ codes "asks" ∷ []
 
 -- {"ends": final statuses, "runs": true or false, "before": [task, ..], "past": [task, ..], "chain": [task, ..], "asked": [token, ..], "asks": [token, ..]}, of which all but the first two may be left out
 unfoldable pub row_at : RuleSet → Data → Option NamedRow
@@ -27,10 +27,10 @@ row_at rules d = do
   asks ← texts_in (codes "asks") d
   Some (record { ends = ends; runs = runs; before = before; past = past; chain = chain; asked = asked; asks = asks })
 
--- by the wide rules a leaf without rows is the text `least`
+-- by the rules with tokens a leaf without rows is the text `least`
 abbrev pub is_least : RuleSet → Data → Bool
-is_least Narrow d = false
-is_least Wide d = unwrap_or (option_map (λ text. bytes_eq text (codes "least")) (as_str d)) false
+is_least WithoutTokens d = false
+is_least WithTokens d = unwrap_or (option_map (λ text. bytes_eq text (codes "least")) (as_str d)) false
 
 -- that text, or {"rows": [row, ..]}
 unfoldable pub leaf_at : RuleSet → Data → Option NamedTree
@@ -56,10 +56,10 @@ winner_at inner d =
     object_of (codes "split_winner" ∷ codes "task" ∷ codes "yes" ∷ codes "no" ∷ []) d
     ((λ task argument yes no. SplitWinner task argument yes no) <$> text_in (codes "split_winner") d <*> text_in (codes "task") d <*> inside inner (codes "yes") d <*> inside inner (codes "no") d)
 
--- by the wide rules trees split on winners too
+-- by the rules with tokens trees split on winners too
 abbrev pub splits_winners : RuleSet → Bool
-splits_winners Narrow = false
-splits_winners Wide = true
+splits_winners WithoutTokens = false
+splits_winners WithTokens = true
 
 -- a split or a leaf
 unfoldable pub node_at : RuleSet → (Data → Option NamedTree) → Data → Option NamedTree

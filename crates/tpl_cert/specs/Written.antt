@@ -9,9 +9,8 @@ use Rattle.serde_json.specs.Data.{Data, string, boolean, array, object, Members,
 use Rattle.serde_json.specs.View.{items_of}
 use Rattle.tpl_model.specs.declared.finals.Finals.{Finals}
 use Rattle.tpl_model.specs.declared.rule_set.RuleSet.{RuleSet}
-use Rattle.tpl_model.specs.declared.rule_set.RuleSet.TheVariants.{Narrow, Wide}
-use Rattle.tpl_model.specs.Certificate.{Row}
-use Rattle.tpl_model.specs.WiderRules.{WideRow, WideTree, OnInput, OnEnd, OnWinner, WideLeaf, LeastLeaf}
+use Rattle.tpl_model.specs.declared.rule_set.RuleSet.TheVariants.{WithoutTokens, WithTokens}
+use Rattle.tpl_model.specs.Certificate.{PlainRow, Row, Tree, OnInput, OnEnd, OnWinner, RowsLeaf, LeastLeaf}
 use Rattle.tpl_draft.specs.Named.{Names}
 use Rattle.tpl_trees.specs.Sets.{HasTaskSets, HasTokenSets}
 use Rattle.tpl_cert.specs.declared.fault.TreeToFault.{TreeToFault}
@@ -46,15 +45,15 @@ names_data names ids = texts_data (map (name_at names) ids)
 -- ---- the values
 
 -- the members of a row that don't speak of tokens
-abbrev pub row_members : Names → Row → Members
+abbrev pub row_members : Names → PlainRow → Members
 row_members n r =
     member (codes "before") (names_data n.tasks r.before)
     (member (codes "chain") (names_data n.tasks r.chain) (member (codes "ends") (texts_data (words_of r.ends)) (member (codes "past") (names_data n.tasks r.past) (member (codes "runs") (boolean r.runs) no_members))))
 
--- by the wide rules a row has its tokens too
-abbrev pub row_data : RuleSet → Names → WideRow → Data
-row_data Narrow n r = object (row_members n r.row)
-row_data Wide n r = object (member (codes "asked") (names_data n.tokens r.asked) (member (codes "asks") (names_data n.tokens r.asks) (row_members n r.row)))
+-- by the rules with tokens a row has its tokens too
+abbrev pub row_data : RuleSet → Names → Row → Data
+row_data WithoutTokens n r = object (row_members n r.row)
+row_data WithTokens n r = object (member (codes "asked") (names_data n.tokens r.asked) (member (codes "asks") (names_data n.tokens r.asks) (row_members n r.row)))
 
 -- a leaf with rows, and the splits
 abbrev pub leaf_data : Data → Data
@@ -71,47 +70,43 @@ winner_data name argument first second =
     object (member (codes "no") second (member (codes "split_winner") (string name) (member (codes "task") (string argument) (member (codes "yes") first no_members))))
 
 -- a leaf without rows is the text `least`
-abbrev pub tree_data : RuleSet → Names → WideTree → Data
+abbrev pub tree_data : RuleSet → Names → Tree → Data
 tree_data rules n (OnInput i a b) = input_data (name_at n.inputs i) (tree_data rules n a) (tree_data rules n b)
 tree_data rules n (OnEnd t a b c) = end_data (name_at n.tasks t) (tree_data rules n a) (tree_data rules n b) (tree_data rules n c)
 tree_data rules n (OnWinner t x a b) = winner_data (name_at n.tasks t) (name_at n.tasks x) (tree_data rules n a) (tree_data rules n b)
-tree_data rules n (WideLeaf rows) = leaf_data (array (items_of (map (row_data rules n) rows)))
+tree_data rules n (RowsLeaf rows) = leaf_data (array (items_of (map (row_data rules n) rows)))
 tree_data rules n LeastLeaf = string (codes "least")
 
 -- the array of the values of trees
-abbrev pub certificate_data : RuleSet → Names → List WideTree → Data
+abbrev pub certificate_data : RuleSet → Names → List Tree → Data
 certificate_data rules n trees = array (items_of (map (tree_data rules n) trees))
 
 -- ---- what trees have to be
 
 -- each id in the tree is the graph's
-abbrev pub has_task_ids : Names → Row → Bool
+abbrev pub has_task_ids : Names → PlainRow → Bool
 has_task_ids n r = list_all (is_id n.tasks) r.before && (list_all (is_id n.tasks) r.past && list_all (is_id n.tasks) r.chain)
 
-abbrev pub has_row_ids : Names → WideRow → Bool
+abbrev pub has_row_ids : Names → Row → Bool
 has_row_ids n r = list_all (is_id n.tokens) r.asked && (list_all (is_id n.tokens) r.asks && has_task_ids n r.row)
 
-abbrev pub has_ids : Names → WideTree → Bool
+abbrev pub has_ids : Names → Tree → Bool
 has_ids n (OnInput i a b) = is_id n.inputs i && (has_ids n a && has_ids n b)
 has_ids n (OnEnd t a b c) = is_id n.tasks t && (has_ids n a && (has_ids n b && has_ids n c))
 has_ids n (OnWinner t x a b) = is_id n.tasks t && (is_id n.tasks x && (has_ids n a && has_ids n b))
-has_ids n (WideLeaf rows) = list_all (has_row_ids n) rows
+has_ids n (RowsLeaf rows) = list_all (has_row_ids n) rows
 has_ids n LeastLeaf = true
 
 -- what stands before and past is a set of tasks, and the tokens are sets
-abbrev pub HasRowSets : WideRow → Type 0
+abbrev pub HasRowSets : Row → Type 0
 HasRowSets r = HasTokenSets r × HasTaskSets r.row
 
-abbrev pub HasSets : WideTree → Type 0
+abbrev pub HasSets : Tree → Type 0
 HasSets (OnInput i a b) = HasSets a × HasSets b
 HasSets (OnEnd t a b c) = HasSets a × HasSets b × HasSets c
 HasSets (OnWinner t x a b) = HasSets a × HasSets b
-HasSets (WideLeaf rows) = All HasRowSets rows
+HasSets (RowsLeaf rows) = All HasRowSets rows
 HasSets LeastLeaf = Unit {0}
-
--- a row of which nothing is said of tokens
-abbrev pub bare : Row → WideRow
-bare r = record { row = r; asked = []; asks = [] }
 
 -- ---- what a writer has written
 

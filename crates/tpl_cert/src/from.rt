@@ -4,49 +4,32 @@ ghost use Rattle.std.specs.Prelude.{◌≡◌, ◌⊎◌, Ok, Err, IfOk, IfErr};
 ghost use Rattle.tpl_cert.specs.Prelude.{read_tree};
 ghost use Rattle.tpl_cert.specs.declared.fault.TreeFault.TheVariants.{Memory};
 ghost use Rattle.tpl_json.specs.Prelude.{view};
-ghost use Rattle.tpl_model.specs.Prelude.{as_wide_tree};
-ghost use Rattle.tpl_model.specs.declared.rule_set.RuleSet.TheVariants.{Narrow, Wide};
 
 use crate::fault::TreeFault;
-use crate::naming::{tree_in, wide_tree_in};
+use crate::naming::tree_in;
 use crate::read::named_tree;
 use json::Value;
 use std::alloc::Global;
 use tpl_graph::Graph;
 use tpl_model::RuleSet;
-use tpl_trees::{Tree, WideTree, is_within_limits, is_within_wide_limits};
+use tpl_trees::{Tree, is_within_limits};
 
-/// The certificate tree that the value spells with the names of the graph, where it is within the limits: at most 6
-/// splits on each path and at most 16 tasks in a chain. Else the least `TreeFault` that applies anywhere in the value,
-/// however deep it nests, or `Memory`.
-pub fn tree_from(alloc: Global, graph: &Graph, value: &Value<'_>) -> Result<Tree, TreeFault>
-    ensures ok { IfOk result (λ t. read_tree Narrow graph.now.names (view value.now)
-        ≡ Ok (as_wide_tree t)) }
-    ensures err { IfErr result (λ e. (e ≡ Memory)
-        ⊎ (read_tree Narrow graph.now.names (view value.now) ≡ Err e)) }
-{
-    let named = named_tree(alloc, RuleSet::Narrow, value)?;
-    let tree = tree_in(alloc, graph, &named)?;
-    if is_within_limits(&tree) {
-        Ok(tree)
-    } else {
-        Err(TreeFault::Limit)
-    }
-}
-
-/// The same, of a tree that may speak of tokens and of winners.
-pub fn wide_tree_from(
+/// The certificate tree that the value spells by the rules with the names of the graph, where it is within the limits:
+/// at most 6 splits on each path and at most 16 tasks in a chain. Else the least `TreeFault` that applies anywhere in
+/// the value, however deep it nests, or `Memory`. By the rules without tokens it says nothing of tokens and of winners.
+pub fn tree_from(
     alloc: Global,
+    rules: RuleSet,
     graph: &Graph,
     value: &Value<'_>,
-) -> Result<WideTree, TreeFault>
-    ensures ok { IfOk result (λ t. read_tree Wide graph.now.names (view value.now) ≡ Ok t) }
+) -> Result<Tree, TreeFault>
+    ensures ok { IfOk result (λ t. read_tree rules graph.now.names (view value.now) ≡ Ok t) }
     ensures err { IfErr result (λ e. (e ≡ Memory)
-        ⊎ (read_tree Wide graph.now.names (view value.now) ≡ Err e)) }
+        ⊎ (read_tree rules graph.now.names (view value.now) ≡ Err e)) }
 {
-    let named = named_tree(alloc, RuleSet::Wide, value)?;
-    let tree = wide_tree_in(alloc, graph, &named)?;
-    if is_within_wide_limits(&tree) {
+    let named = named_tree(alloc, rules, value)?;
+    let tree = tree_in(alloc, graph, &named)?;
+    if is_within_limits(&tree) {
         Ok(tree)
     } else {
         Err(TreeFault::Limit)

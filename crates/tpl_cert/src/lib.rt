@@ -17,7 +17,7 @@ mod row_text;
 mod text;
 
 pub use fault::{TreeFault, TreeToFault};
-pub use from::{tree_from, wide_tree_from};
+pub use from::tree_from;
 pub use laws::certificates_nest_little;
 pub use read::tree_shape;
-pub use text::{trees_text, wide_trees_text};
+pub use text::trees_text;

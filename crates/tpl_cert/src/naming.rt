@@ -1,11 +1,10 @@
 //! Ids for the names of a tree.
 
-ghost use Rattle.std.specs.Prelude.{◌≡◌, map, IfErr, All};
-ghost use Rattle.tpl_cert.specs.Prelude.{IsPlain, IsPlainRow, number_in, numbers_in, row_in, row_of, set_in, tree_in, tree_of, wide_row_in, wide_rows_in};
+ghost use Rattle.std.specs.Prelude.{◌≡◌, map, IfErr};
+ghost use Rattle.tpl_cert.specs.Prelude.{number_in, numbers_in, row_in, row_of, rows_in, set_in, tree_in, tree_of};
 ghost use Rattle.tpl_draft.specs.Prelude.{input_number, task_number, token_number};
 ghost use Rattle.tpl_json.specs.Prelude.{Yields};
 ghost use Rattle.tpl_json.specs.declared.miss.Miss.TheVariants as miss;
-ghost use Rattle.tpl_model.specs.Prelude.{as_wide, as_wide_tree};
 ghost use Rattle.tpl_trees.specs.Prelude.{tokens_in};
 
 use crate::fault::TreeFault;
@@ -15,7 +14,7 @@ use tpl_graph::Graph;
 use tpl_json::{Miss, read_each};
 use tpl_model::{InputId, MOST_TASKS, MOST_TOKENS, TaskId, TaskSet, TokenId};
 use tpl_paths::TokenSet;
-use tpl_trees::{Node, Row, Tree, WideNode, WideRow, WideTree};
+use tpl_trees::{Node, PlainRow, Row, Tree};
 
 fn input_in(graph: &Graph, name: &str) -> Result<InputId, Miss<TreeFault>>
     ensures yields { Yields input_number result (number_in graph.now.names.inputs name.now) }
@@ -81,7 +80,6 @@ fn chain_in(alloc: Global, graph: &Graph, names: &[&str]) -> Result<Vec<TaskId>,
     read_each(alloc, names, |_, name| task_in(graph, name))
 }
 
-/// The row, without its tokens.
 #[tactic(auto, unfolding(crate::specs::Naming::row_in))]
 fn row_in(alloc: Global, graph: &Graph, row: &NamedRow) -> Result<Row, Miss<TreeFault>>
     ensures { Yields (λ r. r) result (row_in graph.now.names (row_of row.now)) }
@@ -89,25 +87,17 @@ fn row_in(alloc: Global, graph: &Graph, row: &NamedRow) -> Result<Row, Miss<Tree
     let before = tasks_in(graph, &row.before)?;
     let past = tasks_in(graph, &row.past)?;
     let chain = chain_in(alloc, graph, &row.chain)?;
-    Ok(Row::new(row.ends, row.runs, before, past, chain))
-}
-
-#[tactic(auto, unfolding(crate::specs::Naming::wide_row_in))]
-fn wide_row_in(alloc: Global, graph: &Graph, row: &NamedRow) -> Result<WideRow, Miss<TreeFault>>
-    ensures { Yields (λ r. r) result (wide_row_in graph.now.names (row_of row.now)) }
-{
-    let plain = row_in(alloc, graph, row)?;
     let asked = tokens_in(graph, &row.asked)?;
     let asks = tokens_in(graph, &row.asks)?;
-    Ok(WideRow::new(plain, asked, asks))
+    let plain = PlainRow::new(row.ends, row.runs, before, past, chain);
+    Ok(Row::new(plain, asked, asks))
 }
 
 fn rows_in(alloc: Global, graph: &Graph, rows: &[NamedRow]) -> Result<Vec<Row>, Miss<TreeFault>>
-    requires { All (λ r. IsPlainRow (row_of r)) rows.now }
-    ensures { Yields (λ v. as_wide v.items) result
-        (wide_rows_in graph.now.names (map row_of rows.now)) }
+    ensures { Yields (λ v. v.items) result
+        (rows_in graph.now.names (map row_of rows.now)) }
 {
-    let mut found = Vec::new(alloc);
+    let mut found = Vec::with_capacity(alloc, rows.len())?;
     for row in rows {
         let row = row_in(alloc, graph, row)?;
         found.push(row)?;
@@ -115,28 +105,15 @@ fn rows_in(alloc: Global, graph: &Graph, rows: &[NamedRow]) -> Result<Vec<Row>, 
     Ok(found)
 }
 
-fn wide_rows_in(
-    alloc: Global,
-    graph: &Graph,
-    rows: &[NamedRow],
-) -> Result<Vec<WideRow>, Miss<TreeFault>>
-    ensures { Yields (λ v. v.items) result
-        (wide_rows_in graph.now.names (map row_of rows.now)) }
-{
-    read_each(alloc, rows, |_, row| wide_row_in(alloc, graph, row))
-}
-
 #[cycle(naming)]
 fn inside_in(alloc: Global, graph: &Graph, tree: &NamedTree) -> Result<Box<Tree>, Miss<TreeFault>>
-    requires { IsPlain (tree_of tree.now) }
-    ensures { Yields (λ b. as_wide_tree b.value) result
-        (tree_in graph.now.names (tree_of tree.now)) }
+    ensures { Yields (λ b. b.value) result (tree_in graph.now.names (tree_of tree.now)) }
 {
     let found = tree_in(alloc, graph, tree)?;
     Ok(Box::new(alloc, found)?)
 }
 
-/// The tree with ids in place of names, which speaks of no token and of no winner, and has rows in each leaf.
+/// The tree with ids in place of names.
 #[cycle(naming)]
 #[tactic(auto, unfolding(crate::specs::Naming::tree_in))]
 pub(crate) fn tree_in(
@@ -144,8 +121,7 @@ pub(crate) fn tree_in(
     graph: &Graph,
     tree: &NamedTree,
 ) -> Result<Tree, Miss<TreeFault>>
-    requires { IsPlain (tree_of tree.now) }
-    ensures { Yields as_wide_tree result (tree_in graph.now.names (tree_of tree.now)) }
+    ensures { Yields (λ t. t) result (tree_in graph.now.names (tree_of tree.now)) }
 {
     match tree {
         NamedTree::SplitInput(name, first, second) => {
@@ -161,61 +137,17 @@ pub(crate) fn tree_in(
             let faulted = inside_in(alloc, graph, faulted)?;
             Ok(Tree::new(Node::SplitEnd(task, ran, canceled, faulted)))
         }
-        NamedTree::SplitWinner(..) | NamedTree::Least => unreachable!(),
+        NamedTree::SplitWinner(name, other, first, second) => {
+            let task = task_in(graph, name)?;
+            let argument = task_in(graph, other)?;
+            let first = inside_in(alloc, graph, first)?;
+            let second = inside_in(alloc, graph, second)?;
+            Ok(Tree::new(Node::SplitWinner(task, argument, first, second)))
+        }
         NamedTree::Leaf(rows) => {
             let rows = rows_in(alloc, graph, rows)?;
             Ok(Tree::new(Node::Leaf(rows)))
         }
-    }
-}
-
-#[cycle(wide_naming)]
-fn wide_inside_in(
-    alloc: Global,
-    graph: &Graph,
-    tree: &NamedTree,
-) -> Result<Box<WideTree>, Miss<TreeFault>>
-    ensures { Yields (λ b. b.value) result (tree_in graph.now.names (tree_of tree.now)) }
-{
-    let found = wide_tree_in(alloc, graph, tree)?;
-    Ok(Box::new(alloc, found)?)
-}
-
-/// The tree with ids in place of names.
-#[cycle(wide_naming)]
-#[tactic(auto, unfolding(crate::specs::Naming::tree_in))]
-pub(crate) fn wide_tree_in(
-    alloc: Global,
-    graph: &Graph,
-    tree: &NamedTree,
-) -> Result<WideTree, Miss<TreeFault>>
-    ensures { Yields (λ t. t) result (tree_in graph.now.names (tree_of tree.now)) }
-{
-    match tree {
-        NamedTree::SplitInput(name, first, second) => {
-            let input = input_in(graph, name)?;
-            let first = wide_inside_in(alloc, graph, first)?;
-            let second = wide_inside_in(alloc, graph, second)?;
-            Ok(WideTree::new(WideNode::SplitInput(input, first, second)))
-        }
-        NamedTree::SplitEnd(name, ran, canceled, faulted) => {
-            let task = task_in(graph, name)?;
-            let ran = wide_inside_in(alloc, graph, ran)?;
-            let canceled = wide_inside_in(alloc, graph, canceled)?;
-            let faulted = wide_inside_in(alloc, graph, faulted)?;
-            Ok(WideTree::new(WideNode::SplitEnd(task, ran, canceled, faulted)))
-        }
-        NamedTree::SplitWinner(name, other, first, second) => {
-            let task = task_in(graph, name)?;
-            let argument = task_in(graph, other)?;
-            let first = wide_inside_in(alloc, graph, first)?;
-            let second = wide_inside_in(alloc, graph, second)?;
-            Ok(WideTree::new(WideNode::SplitWinner(task, argument, first, second)))
-        }
-        NamedTree::Leaf(rows) => {
-            let rows = wide_rows_in(alloc, graph, rows)?;
-            Ok(WideTree::new(WideNode::Leaf(rows)))
-        }
-        NamedTree::Least => Ok(WideTree::new(WideNode::Least)),
+        NamedTree::Least => Ok(Tree::new(Node::Least)),
     }
 }

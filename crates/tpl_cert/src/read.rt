@@ -4,7 +4,7 @@ ghost use Rattle.std.specs.Prelude.{◌≡◌, None, map, option_and_then, optio
 ghost use Rattle.serde_json.specs.Find.{get};
 ghost use Rattle.tpl_cert.specs.Prelude.{end_at, input_at, is_least, leaf_at, node_at, row_at, row_names, row_of, tree_of, whole_tree, winner_at};
 ghost use Rattle.tpl_json.specs.Prelude.{Gives, each, texts_in, view};
-ghost use Rattle.tpl_model.specs.declared.rule_set.RuleSet.TheVariants.{Narrow};
+ghost use Rattle.tpl_model.specs.declared.rule_set.RuleSet.TheVariants.{WithoutTokens};
 
 use crate::named::{NamedRow, NamedTree};
 use json::Value;
@@ -15,29 +15,29 @@ use tpl_json::{
 };
 use tpl_model::RuleSet;
 
-/// The members of a row: by the wide rules it speaks of tokens too.
+/// The members of a row: by the rules with tokens it speaks of tokens too.
 fn row_names(rules: RuleSet) -> &'static [&'static str]
     ensures { map (λ s. s.now) result.now ≡ row_names rules }
 {
     match rules {
-        RuleSet::Narrow => &["ends", "runs", "before", "past", "chain"],
-        RuleSet::Wide => &["ends", "runs", "before", "past", "chain", "asked", "asks"],
+        RuleSet::WithoutTokens => &["ends", "runs", "before", "past", "chain"],
+        RuleSet::WithTokens => &["ends", "runs", "before", "past", "chain", "asked", "asks"],
     }
 }
 
-/// The tokens in a member of a row, which no row of the narrow rules has.
+/// The tokens in a member of a row, which no row of the rules without tokens has.
 fn tokens_in<'v, 't>(
     alloc: Global,
     rules: RuleSet,
     value: &'v Value<'t>,
     name: &str,
 ) -> Result<Vec<&'v str>, Miss<Shape<'v, 't>>>
-    requires { rules ≡ Narrow → get name.now (view value.now) ≡ None }
+    requires { rules ≡ WithoutTokens → get name.now (view value.now) ≡ None }
     ensures { Gives (λ v. map (λ s. s.now) v.items) result (texts_in name.now (view value.now)) }
 {
     match rules {
-        RuleSet::Narrow => Ok(Vec::new(alloc)),
-        RuleSet::Wide => texts_in(alloc, value, name),
+        RuleSet::WithoutTokens => Ok(Vec::new(alloc)),
+        RuleSet::WithTokens => texts_in(alloc, value, name),
     }
 }
 
@@ -81,14 +81,14 @@ fn rows_of<'v, 't>(
     read_each(alloc, values, |_, value| row_of(alloc, rules, value))
 }
 
-/// Whether the value is a leaf without rows, which the wide rules have.
+/// Whether the value is a leaf without rows, which the rules with tokens have.
 #[tactic(auto, using(tpl_json::proofs::DataOf::text_is))]
 fn is_least(rules: RuleSet, value: &Value<'_>) -> bool
     ensures { result ≡ is_least rules (view value.now) }
 {
     match rules {
-        RuleSet::Narrow => false,
-        RuleSet::Wide => match value.as_str() {
+        RuleSet::WithoutTokens => false,
+        RuleSet::WithTokens => match value.as_str() {
             None => false,
             Some(text) => text == "least",
         },
@@ -201,13 +201,13 @@ fn node_of<'v, 't>(
     if find(value, "split_end").is_some() {
         return end_of(alloc, rules, value);
     }
-    if rules == RuleSet::Wide && find(value, "split_winner").is_some() {
+    if rules == RuleSet::WithTokens && find(value, "split_winner").is_some() {
         return winner_of(alloc, rules, value);
     }
     leaf_of(alloc, rules, value)
 }
 
-/// A tree, however deep the value nests. By the wide rules it may speak of tokens and of winners.
+/// A tree, however deep the value nests. By the rules with tokens it may speak of tokens and of winners.
 #[cycle(tree)]
 pub(crate) fn named_tree<'v, 't>(
     alloc: Global,

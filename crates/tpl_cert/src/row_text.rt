@@ -5,19 +5,19 @@ ghost use Rattle.std.specs.List.{list_all};
 ghost use Rattle.json.specs.Token as token;
 ghost use Rattle.serde_json.specs.Data.{array, string};
 ghost use Rattle.serde_json.specs.View.{items_of};
-ghost use Rattle.tpl_cert.specs.Prelude.{HasRowSets, Puts, PutsMembers, PutsValue, Writes, bare, has_row_ids, has_task_ids, is_id, name_at, names_data, row_data, row_members, texts_data, word_if, words_of};
+ghost use Rattle.tpl_cert.specs.Prelude.{HasRowSets, Puts, PutsMembers, PutsValue, Writes, has_row_ids, has_task_ids, is_id, name_at, names_data, row_data, row_members, texts_data, word_if, words_of};
 ghost use Rattle.tpl_draft.specs.Prelude.{task_number};
-ghost use Rattle.tpl_model.specs.Prelude.{IsTaskSet, as_wide};
-ghost use Rattle.tpl_model.specs.declared.rule_set.RuleSet.TheVariants.{Narrow, Wide};
+ghost use Rattle.tpl_model.specs.Prelude.{ArePlain, IsTaskSet};
+ghost use Rattle.tpl_model.specs.declared.rule_set.RuleSet.TheVariants.{WithoutTokens, WithTokens};
 ghost use Rattle.tpl_trees.specs.Prelude.{HasTaskSets, tokens_in};
 
 use crate::fault::TreeToFault;
 use json::Writer;
 use std::alloc::AllocError;
 use tpl_graph::Graph;
-use tpl_model::{Finals, MOST_TOKENS, TaskId, TaskSet, TokenId};
+use tpl_model::{Finals, MOST_TOKENS, RuleSet, TaskId, TaskSet, TokenId};
 use tpl_paths::TokenSet;
-use tpl_trees::{Row, WideRow};
+use tpl_trees::{PlainRow, Row};
 
 /// The name of a task, where it is the graph's.
 pub(crate) fn task_name(graph: &Graph, task: TaskId) -> Result<&str, TreeToFault>
@@ -154,7 +154,7 @@ fn close_row(runs: bool, out: &mut Writer) -> Result<(), AllocError>
 }
 
 /// The members of a row that don't speak of tokens, and its end.
-fn write_members(graph: &Graph, row: &Row, out: &mut Writer) -> Result<(), TreeToFault>
+fn write_members(graph: &Graph, row: &PlainRow, out: &mut Writer) -> Result<(), TreeToFault>
     ensures { Writes result (has_task_ids graph.now.names row.now)
         (λ _. PutsMembers (row_members graph.now.names row.now) out.old out.new
         × HasTaskSets row.now) }
@@ -171,21 +171,23 @@ fn write_members(graph: &Graph, row: &Row, out: &mut Writer) -> Result<(), TreeT
     Ok(())
 }
 
-/// A row by the narrow rules.
-fn write_row(graph: &Graph, row: &Row, out: &mut Writer) -> Result<(), TreeToFault>
-    ensures { Writes result (has_row_ids graph.now.names (bare row.now))
-        (λ _. PutsValue (row_data Narrow graph.now.names (bare row.now)) out.old out.new
-        × HasRowSets (bare row.now)) }
+/// A row that says nothing of tokens, by the rules without tokens.
+fn write_plain_row(graph: &Graph, row: &Row, out: &mut Writer) -> Result<(), TreeToFault>
+    requires { (row.now.asked ≡ []) × (row.now.asks ≡ []) }
+    ensures { Writes result (has_row_ids graph.now.names row.now)
+        (λ _. PutsValue (row_data WithoutTokens graph.now.names row.now) out.old out.new
+        × HasRowSets row.now) }
 {
+    row.sets_law();
     out.begin_object()?;
-    write_members(graph, row, out)?;
+    write_members(graph, row.row(), out)?;
     Ok(())
 }
 
-/// A row by the wide rules, with its tokens first.
-fn write_wide_row(graph: &Graph, row: &WideRow, out: &mut Writer) -> Result<(), TreeToFault>
+/// A row by the rules with tokens, with its tokens first.
+fn write_token_row(graph: &Graph, row: &Row, out: &mut Writer) -> Result<(), TreeToFault>
     ensures { Writes result (has_row_ids graph.now.names row.now)
-        (λ _. PutsValue (row_data Wide graph.now.names row.now) out.old out.new
+        (λ _. PutsValue (row_data WithTokens graph.now.names row.now) out.old out.new
         × HasRowSets row.now) }
 {
     row.sets_law();
@@ -197,33 +199,34 @@ fn write_wide_row(graph: &Graph, row: &WideRow, out: &mut Writer) -> Result<(), 
     Ok(())
 }
 
-/// The rows of a leaf by the narrow rules.
-pub(crate) fn write_rows(graph: &Graph, rows: &[Row], out: &mut Writer) -> Result<(), TreeToFault>
-    ensures { Writes result (list_all (has_row_ids graph.now.names) (as_wide rows.now))
-        (λ _. PutsValue (array (items_of (map (row_data Narrow graph.now.names)
-        (as_wide rows.now)))) out.old out.new × All HasRowSets (as_wide rows.now)) }
+/// A row by the rules.
+fn write_row(graph: &Graph, rules: RuleSet, row: &Row, out: &mut Writer) -> Result<(), TreeToFault>
+    requires { rules ≡ WithoutTokens → (row.now.asked ≡ []) × (row.now.asks ≡ []) }
+    ensures { Writes result (has_row_ids graph.now.names row.now)
+        (λ _. PutsValue (row_data rules graph.now.names row.now) out.old out.new
+        × HasRowSets row.now) }
 {
-    out.begin_array()?;
-    for row in rows {
-        write_row(graph, row, out)?;
+    match rules {
+        RuleSet::WithoutTokens => write_plain_row(graph, row, out),
+        RuleSet::WithTokens => write_token_row(graph, row, out),
     }
-    out.end_array()?;
-    Ok(())
 }
 
-/// The rows of a leaf by the wide rules.
-pub(crate) fn write_wide_rows(
+/// The rows of a leaf by the rules.
+pub(crate) fn write_rows(
     graph: &Graph,
-    rows: &[WideRow],
+    rules: RuleSet,
+    rows: &[Row],
     out: &mut Writer,
 ) -> Result<(), TreeToFault>
+    requires { rules ≡ WithoutTokens → ArePlain rows.now }
     ensures { Writes result (list_all (has_row_ids graph.now.names) rows.now)
-        (λ _. PutsValue (array (items_of (map (row_data Wide graph.now.names) rows.now)))
+        (λ _. PutsValue (array (items_of (map (row_data rules graph.now.names) rows.now)))
         out.old out.new × All HasRowSets rows.now) }
 {
     out.begin_array()?;
     for row in rows {
-        write_wide_row(graph, row, out)?;
+        write_row(graph, rules, row, out)?;
     }
     out.end_array()?;
     Ok(())

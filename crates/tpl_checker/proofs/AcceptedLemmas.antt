@@ -5,10 +5,11 @@ use Rattle.tpl_model.specs.Graph.{TaskGraph}
 use Rattle.tpl_model.specs.Valid.{IsGraph}
 use Rattle.tpl_model.specs.declared.ids.TaskId.{TaskId}
 use Rattle.tpl_model.specs.declared.claim.Property.{Property}
-use Rattle.tpl_model.specs.Certificate.{Row, Assumed, AcceptsTree, Leaf, AllTasks, IdsOfRows}
+use Rattle.tpl_model.specs.Certificate.{PlainRow, Row, plain, Assumed, AcceptsTree, RowsLeaf, AllTasks, IdsOfRows}
 use Rattle.tpl_laws.specs.ClaimTests.{proves}
 use Rattle.tpl_laws.specs.Decided.{FirstBrokenIsRight, ProvesIsRight}
-use Rattle.tpl_laws.specs.Verdict.{LeafFault, ProvesNot, or_else, unless, first_broken, leaf_fault, has_tasks, rows_fit}
+use Rattle.tpl_laws.specs.Verdict.{LeafFault, ProvesNot, or_else, unless, first_broken, leaf_fault, has_tasks, rows_fit, are_plain}
+use Rattle.tpl_laws.proofs.PlainFaults.{plain_decided}
 
 is_below : (a m : ℕ) → a < m → nat_lt a m ≡ true
 is_below a m h = grind arith
@@ -23,7 +24,7 @@ of_tasks : (g : TaskGraph) (xs : List ℕ) → AllTasks g xs → has_tasks g xs 
 of_tasks g [] a = refl
 of_tasks g (x ∷ xs) a = and_from (nat_lt x (length g.tasks)) (has_tasks g xs) (is_below x (length g.tasks) a.0) (of_tasks g xs a.1)
 
-ids_of : (g : TaskGraph) (rows : List Row) → rows_fit g rows ≡ true → IdsOfRows g rows
+ids_of : (g : TaskGraph) (rows : List PlainRow) → rows_fit g rows ≡ true → IdsOfRows g rows
 ids_of g [] e = tt
 ids_of g (r ∷ rows) e =
     let s = and_parts (has_tasks g r.before && (has_tasks g r.past && has_tasks g r.chain)) (rows_fit g rows) e in
@@ -31,7 +32,7 @@ ids_of g (r ∷ rows) e =
     let q = and_parts (has_tasks g r.past) (has_tasks g r.chain) p.1 in
     (tasks_of g r.before p.0, tasks_of g r.past q.0, tasks_of g r.chain q.1, ids_of g rows s.1)
 
-of_ids : (g : TaskGraph) (rows : List Row) → IdsOfRows g rows → rows_fit g rows ≡ true
+of_ids : (g : TaskGraph) (rows : List PlainRow) → IdsOfRows g rows → rows_fit g rows ≡ true
 of_ids g [] a = refl
 of_ids g (r ∷ rows) a =
     and_from (has_tasks g r.before && (has_tasks g r.past && has_tasks g r.chain)) (rows_fit g rows)
@@ -50,13 +51,16 @@ none None false e f = absurd (cc)
 none (Some x) b e f = absurd (cc)
 
 module _ (g : TaskGraph) (p : Property TaskId) (l : Assumed) (rows : List Row) (graph : IsGraph g) (closed : FirstBrokenIsRight) (proved : ProvesIsRight) where
-  pub accepted : length rows ≡ length g.tasks → rows_fit g rows ≡ true → leaf_fault g p l rows ≡ None → AcceptsTree g p l (Leaf rows)
-  accepted all ids e =
-      let s = neither (first_broken g l rows 0 (length g.tasks)) (proves g l rows p) e in
-      (all, ids_of g rows ids, (closed g l rows graph).0 s.0, (proved g l rows p).0 s.1)
+  pub accepted : length rows ≡ length g.tasks → rows_fit g (plain rows) ≡ true → are_plain rows ≡ true → leaf_fault g p l (plain rows) ≡ None → AcceptsTree g p l (RowsLeaf rows)
+  accepted all ids none e =
+      let s = neither (first_broken g l (plain rows) 0 (length g.tasks)) (proves g l (plain rows) p) e in
+      (all, ids_of g (plain rows) ids, (closed g l (plain rows) graph).0 s.0, (proved g l (plain rows) p).0 s.1, (plain_decided rows).0 none)
 
-  pub without_fault : AcceptsTree g p l (Leaf rows) → leaf_fault g p l rows ≡ None
-  without_fault a = none (first_broken g l rows 0 (length g.tasks)) (proves g l rows p) ((closed g l rows graph).1 a.2) ((proved g l rows p).1 a.3)
+  pub without_fault : AcceptsTree g p l (RowsLeaf rows) → leaf_fault g p l (plain rows) ≡ None
+  without_fault a = none (first_broken g l (plain rows) 0 (length g.tasks)) (proves g l (plain rows) p) ((closed g l (plain rows) graph).1 a.2) ((proved g l (plain rows) p).1 a.3)
 
-  pub fitting : AcceptsTree g p l (Leaf rows) → rows_fit g rows ≡ true
-  fitting a = of_ids g rows a.1
+  pub fitting : AcceptsTree g p l (RowsLeaf rows) → rows_fit g (plain rows) ≡ true
+  fitting a = of_ids g (plain rows) a.1
+
+  pub is_plain : AcceptsTree g p l (RowsLeaf rows) → are_plain rows ≡ true
+  is_plain a = (plain_decided rows).1 a.4

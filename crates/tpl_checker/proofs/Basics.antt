@@ -12,7 +12,8 @@ use Rattle.tpl_model.specs.Members.{mem}
 use Rattle.tpl_model.specs.TaskSet.{IsSubset}
 use Rattle.tpl_model.specs.Finals.{has, is_final}
 use Rattle.tpl_model.specs.Graph.{some_in}
-use Rattle.tpl_model.specs.Certificate.{Row, row, one_ends}
+use Rattle.tpl_model.specs.Certificate.{PlainRow, Row, plain, row, one_ends}
+use Rattle.tpl_model.specs.TokenRules.{whole_row}
 use Rattle.tpl_draft.specs.Ids.{task_number}
 use Rattle.tpl_laws.specs.RowTests.{all_in, implies, each_end, some_end}
 use Rattle.tpl_graph.specs.Roles.{AreTasks}
@@ -103,7 +104,7 @@ or_else_if false false c r s e f h = h
 joined_ends : (a b c d e f : Bool) → ((a || d) || ((b || e) || (c || f))) ≡ ((a || (b || c)) || (d || (e || f)))
 joined_ends a b c d e f = grind arith
 
-pub some_end_of_one : (rows : List Row) (xs : List ℕ) → some_end (one_ends xs rows) ≡ some_in (λ x. some_end (has (row rows x).ends)) xs
+pub some_end_of_one : (rows : List PlainRow) (xs : List ℕ) → some_end (one_ends xs rows) ≡ some_in (λ x. some_end (has (row rows x).ends)) xs
 some_end_of_one rows [] = refl
 some_end_of_one rows (x ∷ xs) =
     joined_ends (row rows x).ends.ran (row rows x).ends.canceled (row rows x).ends.faulted (one_ends xs rows RanToCompletion) (one_ends xs rows Canceled) (one_ends xs rows Faulted)
@@ -135,3 +136,9 @@ module _ (tasks : List TaskId) (i : ℕ) (d : TaskId) (lt : i < length tasks) wh
   all_more p b =
       and_assoc b (p (slice_index_or tasks i d).0) (all_in p (map task_number (drop (i + 1) tasks)))
       ∙ ap (λ (ts : List TaskId). b && all_in p (map task_number ts)) (sym (drop_more tasks i d lt))
+
+-- the plain row of a task
+pub plain_row : (rows : List Row) (t : ℕ) → (whole_row rows t).row ≡ row (plain rows) t
+plain_row [] t = refl
+plain_row (r ∷ rows) zero = refl
+plain_row (r ∷ rows) (suc t) = plain_row rows t

@@ -14,7 +14,7 @@ use Rattle.tpl_model.specs.Paths.{Known, Path, MayEnd, MayThrow, MayStartChild}
 use Rattle.tpl_model.specs.Recursion.{may, none, is_throw, passes_by, another, reaches, reaches_in, MayIsRight, MayStartIsRight}
 use Rattle.tpl_model.specs.Graph.{TaskGraph, body, IsParent}
 use Rattle.tpl_model.specs.Valid.{IsGraph}
-use Rattle.tpl_model.specs.Certificate.{Row, Assumed, view}
+use Rattle.tpl_model.specs.Certificate.{PlainRow, Assumed, view}
 use Rattle.tpl_laws.specs.RowTests.{is_return, is_acknowledgement}
 use Rattle.tpl_checker.specs.declared.bodies.Bodies.{Bodies}
 use Rattle.tpl_checker.specs.Bodies.{AreFirstBodies}
@@ -94,7 +94,7 @@ member_step test t x v old new is so_far e = elim (eqb_tells x t) [
     no true b = refl
     no false b = refl
 
-module _ (g : TaskGraph) (l : Assumed) (rows : List Row) (valid : IsGraph g) (law : MayStartIsRight) where
+module _ (g : TaskGraph) (l : Assumed) (rows : List PlainRow) (valid : IsGraph g) (law : MayStartIsRight) where
   -- the children of all, with those of the task t
   pub started_step : (t p c : ℕ) (old fresh new : Bool) → IsParent g p c → (c < 1024 → (fresh ≡ true) ↔ MayStartChild (view g l rows t) (body g t) c) → old ≡ (nat_lt p t && reaches c (view g l rows p) (body g p)) → new ≡ (old || fresh) → new ≡ (nat_lt p (suc t) && reaches c (view g l rows p) (body g p))
   started_step t p c old fresh new parent d so_far e =
@@ -122,7 +122,7 @@ module _ (g : TaskGraph) (l : Assumed) (rows : List Row) (valid : IsGraph g) (la
       ]
 
 -- of no task
-pub no_bodies : (g : TaskGraph) (l : Assumed) (rows : List Row) (b : Bodies) → b.returned ≡ [] → b.thrown ≡ [] → b.acknowledged ≡ [] → b.started ≡ [] → AreFirstBodies g l rows 0 b
+pub no_bodies : (g : TaskGraph) (l : Assumed) (rows : List PlainRow) (b : Bodies) → b.returned ≡ [] → b.thrown ≡ [] → b.acknowledged ≡ [] → b.started ≡ [] → AreFirstBodies g l rows 0 b
 no_bodies g l rows b r t a s = record {
   returned = λ x. ap (mem x) r ∙ none_below x (may none is_return (view g l rows x) (body g x));
   thrown = λ x. ap (mem x) t ∙ none_below x (may none is_throw (view g l rows x) (body g x));
@@ -137,7 +137,7 @@ no_bodies g l rows b r t a s = record {
     none_below x b = ap (λ z. z && b) (sym (none_lt x))
 
 -- of all tasks
-module _ (g : TaskGraph) (l : Assumed) (rows : List Row) (b : Bodies) (bodies : AreFirstBodies g l rows (length g.tasks) b) where
+module _ (g : TaskGraph) (l : Assumed) (rows : List PlainRow) (b : Bodies) (bodies : AreFirstBodies g l rows (length g.tasks) b) where
   lt_tasks : (t : ℕ) (x : Bool) → t < length g.tasks → (nat_lt t (length g.tasks) && x) ≡ x
   lt_tasks t x lt = ap (λ z. z && x) (yes t (length g.tasks) lt)
     where
@@ -160,5 +160,5 @@ next_bodies : (t : ℕ) → suc t ≡ t + 1
 next_bodies t = omega arith
 
 -- with the task t
-pub with_body : (g : TaskGraph) (l : Assumed) (rows : List Row) (t : ℕ) (b : Bodies) → AreFirstBodies g l rows (suc t) b → AreFirstBodies g l rows (t + 1) b
+pub with_body : (g : TaskGraph) (l : Assumed) (rows : List PlainRow) (t : ℕ) (b : Bodies) → AreFirstBodies g l rows (suc t) b → AreFirstBodies g l rows (t + 1) b
 with_body g l rows t b first = subst (λ n. AreFirstBodies g l rows n b) (next_bodies t) first

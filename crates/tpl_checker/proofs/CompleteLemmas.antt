@@ -3,18 +3,18 @@ use Rattle.std.proofs.Common.{◌≡◌, ℕ, zero, suc, ◌+◌, ◌<◌, ◌&&
 use Rattle.std.proofs.lemmas.Bool.{cases_eq, or_left, or_right}
 use Rattle.tpl_model.specs.Graph.{TaskGraph, kind}
 use Rattle.tpl_model.specs.Rules.{to_end}
-use Rattle.tpl_model.specs.Certificate.{Row, may_end}
+use Rattle.tpl_model.specs.Certificate.{PlainRow, may_end}
 use Rattle.tpl_laws.specs.RowTests.{some_below, none_complete}
 
 -- the task has to end, started or not, and can't
-abbrev pub is_stuck : TaskGraph → List Row → ℕ → Bool
+abbrev pub is_stuck : TaskGraph → List PlainRow → ℕ → Bool
 is_stuck g rows x = to_end (kind g x) false && not (may_end rows x)
 
 -- none of the first n tasks is stuck
-abbrev pub NoneStuck : TaskGraph → List Row → ℕ → Type 0
+abbrev pub NoneStuck : TaskGraph → List PlainRow → ℕ → Type 0
 NoneStuck g rows n = some_below (is_stuck g rows) n ≡ false
 
-pub next_not_stuck : (g : TaskGraph) (rows : List Row) (n : ℕ) → is_stuck g rows n ≡ false → NoneStuck g rows n → NoneStuck g rows (n + 1)
+pub next_not_stuck : (g : TaskGraph) (rows : List PlainRow) (n : ℕ) → is_stuck g rows n ≡ false → NoneStuck g rows n → NoneStuck g rows (n + 1)
 next_not_stuck g rows n e s = subst (NoneStuck g rows) next (ap (λ z. z || some_below (is_stuck g rows) n) e ∙ s)
   where
     next : suc n ≡ n + 1
@@ -27,8 +27,8 @@ some_there test (suc n) i lt e = elim (cases_eq i n) [
   | inr other ↦ or_right (test n) (some_below test n) (some_there test n i (omega arith) e)
 ]
 
-pub stuck_there : (g : TaskGraph) (rows : List Row) (i : ℕ) → i < length g.tasks → is_stuck g rows i ≡ true → true ≡ none_complete g rows
+pub stuck_there : (g : TaskGraph) (rows : List PlainRow) (i : ℕ) → i < length g.tasks → is_stuck g rows i ≡ true → true ≡ none_complete g rows
 stuck_there g rows i lt e = sym (some_there (is_stuck g rows) (length g.tasks) i lt e)
 
-pub none_stuck : (g : TaskGraph) (rows : List Row) (n : ℕ) → n ≡ length g.tasks → NoneStuck g rows n → false ≡ none_complete g rows
+pub none_stuck : (g : TaskGraph) (rows : List PlainRow) (n : ℕ) → n ≡ length g.tasks → NoneStuck g rows n → false ≡ none_complete g rows
 none_stuck g rows n e s = sym (subst (NoneStuck g rows) e s)

@@ -10,7 +10,7 @@ use Rattle.tpl_model.specs.View.{may_have}
 use Rattle.tpl_model.specs.Paths.{Known}
 use Rattle.tpl_model.specs.Recursion.{may, none, is_throw, reaches}
 use Rattle.tpl_model.specs.Graph.{TaskGraph, task, kind, body}
-use Rattle.tpl_model.specs.Certificate.{Row, Assumed, view, subject_set}
+use Rattle.tpl_model.specs.Certificate.{PlainRow, Assumed, view, subject_set}
 use Rattle.tpl_laws.specs.RowTests.{is_return, is_acknowledgement}
 use Rattle.tpl_checker.specs.declared.assumptions.Assumptions.{Assumptions}
 use Rattle.tpl_checker.specs.declared.bodies.Bodies.{Bodies}
@@ -37,7 +37,7 @@ same_finals a b e =
     let r = and_parts (beq a.canceled b.canceled) (beq a.faulted b.faulted) s.1 in
     λ i. record { ran = beq_same a.ran b.ran s.0 i; canceled = beq_same a.canceled b.canceled r.0 i; faulted = beq_same a.faulted b.faulted r.1 i }
 
-pub same_view : (g : TaskGraph) (a b : Assumptions) (xs ys : List Row) (t : ℕ) → a.inputs ≡ b.inputs → a.quiet ≡ b.quiet → a.sure ≡ b.sure → ((f : Final) → subject_set g xs t (kind g t) f ≡ subject_set g ys t (kind g t) f) → view g (assumed_of a) xs t ≡ view g (assumed_of b) ys t
+pub same_view : (g : TaskGraph) (a b : Assumptions) (xs ys : List PlainRow) (t : ℕ) → a.inputs ≡ b.inputs → a.quiet ≡ b.quiet → a.sure ≡ b.sure → ((f : Final) → subject_set g xs t (kind g t) f ≡ subject_set g ys t (kind g t) f) → view g (assumed_of a) xs t ≡ view g (assumed_of b) ys t
 same_view g a b xs ys t inputs quiet sure subjects = λ i. record {
   possible = λ k value. may_have (slice_index_or (inputs i) k both) value;
   quiet = λ k. slice_index_or (quiet i) k false;
@@ -47,7 +47,7 @@ same_view g a b xs ys t inputs quiet sure subjects = λ i. record {
 }
 
 -- where each body sees the same, the bodies end alike and start the same children
-pub same_bodies : (g : TaskGraph) (l m : Assumed) (xs ys : List Row) (b : Bodies) → ((t : ℕ) → t < length g.tasks → view g l xs t ≡ view g m ys t) → AreBodies g l xs b → AreBodies g m ys b
+pub same_bodies : (g : TaskGraph) (l m : Assumed) (xs ys : List PlainRow) (b : Bodies) → ((t : ℕ) → t < length g.tasks → view g l xs t ≡ view g m ys t) → AreBodies g l xs b → AreBodies g m ys b
 same_bodies g l m xs ys b same are = record {
   returned = λ t. are.returned t ∙ seen t (λ w. may none is_return w (body g t));
   thrown = λ t. are.thrown t ∙ seen t (λ w. may none is_throw w (body g t));

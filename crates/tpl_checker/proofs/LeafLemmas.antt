@@ -1,7 +1,7 @@
 -- The first row that breaks a rule, task by task.
 use Rattle.std.proofs.Common.{◌≡◌, ℕ, suc, ◌+◌, ◌-◌, ◌<◌, ◌≤◌, Option, Some, None, List, refl, sym, ap, ◌∙◌, arith}
 use Rattle.tpl_model.specs.Graph.{TaskGraph}
-use Rattle.tpl_model.specs.Certificate.{Row, Assumed}
+use Rattle.tpl_model.specs.Certificate.{PlainRow, Assumed}
 use Rattle.tpl_model.specs.declared.fault.Rule.{Rule}
 use Rattle.tpl_laws.specs.Verdict.{LeafFault, Breaks, or_else, broken, breaks, first_broken}
 
@@ -10,7 +10,7 @@ pub record FindsBroken (rule_of : ℕ → Option Rule) (first : ℕ → ℕ → 
   pub none : (i : ℕ) → first i 0 ≡ None
   pub next : (i n : ℕ) → first i (suc n) ≡ or_else (breaks i (rule_of i)) (first (suc i) n)
 
-pub finds_broken : (g : TaskGraph) (l : Assumed) (rows : List Row) → FindsBroken (broken g l rows) (first_broken g l rows)
+pub finds_broken : (g : TaskGraph) (l : Assumed) (rows : List PlainRow) → FindsBroken (broken g l rows) (first_broken g l rows)
 finds_broken g l rows = record { none = λ i. refl; next = λ i n. refl }
 
 -- the rows of the first i of n tasks break no rule

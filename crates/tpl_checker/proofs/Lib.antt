@@ -14,3 +14,4 @@ pub mod ShapeLemmas
 pub mod SettledLemmas
 pub mod TreeLemmas
 pub mod AcceptedLemmas
+pub mod RowLemmas

@@ -1,13 +1,18 @@
 -- Claims and their trees, one by one.
-use Rattle.std.proofs.Common.{◌≡◌, ℕ, zero, suc, ◌+◌, ◌<◌, ◌≤◌, Bool, true, false, Option, Some, List, [], ◌∷◌, drop, length, refl, sym, ◌∙◌, slice_index_or, inl, inr, min, arith}
+use Rattle.std.proofs.Common.{◌≡◌, ℕ, zero, suc, ◌+◌, ◌<◌, ◌≤◌, ◌&&◌, Bool, true, false, Option, Some, List, [], ◌∷◌, drop, length, refl, sym, ◌∙◌, slice_index_or, inl, inr, min, arith}
 use Rattle.std.proofs.lemmas.Bool.{cases_lt}
 use Rattle.std.proofs.lemmas.List.{drop_more, length-drop}
 use Rattle.tpl_model.specs.Graph.{TaskGraph}
 use Rattle.tpl_model.specs.Claims.{Claim}
-use Rattle.tpl_model.specs.Certificate.{Tree, SplitInput, SplitEnd, Leaf}
+use Rattle.tpl_model.specs.Certificate.{Row, Tree, OnInput, OnEnd, OnWinner, RowsLeaf, LeastLeaf}
 use Rattle.tpl_model.specs.declared.fault.CertFault.{CertFault}
 use Rattle.tpl_model.specs.declared.fault.CertFault.TheVariants.{Shape}
 use Rattle.tpl_model.specs.declared.claim.Property.TheVariants.{Never}
+use Rattle.std.specs.Prelude.{◌↔◌, IsTrue}
+use Rattle.std.proofs.lemmas.Bool.{and_from}
+use Rattle.tpl_model.proofs.Truths.{and_first, and_second, same_tests}
+use Rattle.tpl_laws.specs.RowTests.{is_none}
+use Rattle.tpl_laws.proofs.PlainFaults.{none_decided}
 use Rattle.tpl_trees.specs.Heights.{height}
 use Rattle.tpl_laws.specs.Verdict.{unless, fits, misfit, leaves}
 use Rattle.tpl_checker.proofs.Basics.{drop_all}
@@ -62,6 +67,13 @@ module _ {T : Type 0} {fits_it : T → Bool} {misfit_from : ℕ → List Claim �
     | inr le ↦ elim (cases_lt i (length trees)) [ inl lt ↦ claim_missing (drop i trees) refl le (simp length-drop (omega arith)) | inr le' ↦ absurd (other (omega (arith, so_far.claims_left, so_far.trees_left))) ]
   ]
 
+-- a row is tested by its tokens
+pub plain_tested : (b : Bool) (r : Row) → IsTrue b ↔ ((r.asked ≡ []) × (r.asks ≡ [])) → b ≡ (is_none r.asked && is_none r.asks)
+plain_tested b r h =
+    same_tests b (is_none r.asked && is_none r.asks)
+    (λ e. and_from (is_none r.asked) (is_none r.asks) ((none_decided r.asked).1 (h.0 e).0) ((none_decided r.asks).1 (h.0 e).1))
+    (λ e. h.1 ((none_decided r.asked).0 (and_first (is_none r.asked) (is_none r.asks) e), (none_decided r.asks).0 (and_second (is_none r.asked) (is_none r.asks) e)))
+
 -- the most leaves of a tree with this many splits on a path
 abbrev pub most_leaves : ℕ → ℕ
 most_leaves zero = 1
@@ -72,11 +84,14 @@ one_leaf zero = omega arith
 one_leaf (suc n) = omega (arith, one_leaf n)
 
 leaves_within : (n : ℕ) (t : Tree) → height t ≤ n → leaves t ≤ most_leaves n
-leaves_within n (Leaf rows) le = one_leaf n
-leaves_within zero (SplitInput i a b) le = absurd (omega arith)
-leaves_within zero (SplitEnd t a b c) le = absurd (omega arith)
-leaves_within (suc n) (SplitInput i a b) le = omega (arith, leaves_within n a (omega arith), leaves_within n b (omega arith))
-leaves_within (suc n) (SplitEnd t a b c) le = omega (arith, leaves_within n a (omega arith), leaves_within n b (omega arith), leaves_within n c (omega arith))
+leaves_within n (RowsLeaf rows) le = one_leaf n
+leaves_within n LeastLeaf le = one_leaf n
+leaves_within zero (OnInput i a b) le = absurd (omega arith)
+leaves_within zero (OnEnd t a b c) le = absurd (omega arith)
+leaves_within zero (OnWinner m x a b) le = absurd (omega arith)
+leaves_within (suc n) (OnWinner m x a b) le = omega (arith, leaves_within n a (omega arith), leaves_within n b (omega arith))
+leaves_within (suc n) (OnInput i a b) le = omega (arith, leaves_within n a (omega arith), leaves_within n b (omega arith))
+leaves_within (suc n) (OnEnd t a b c) le = omega (arith, leaves_within n a (omega arith), leaves_within n b (omega arith), leaves_within n c (omega arith))
 
 pub at_most_729_leaves : (t : Tree) → height t ≤ 6 → leaves t ≤ 729
 at_most_729_leaves t le = leaves_within 6 t le

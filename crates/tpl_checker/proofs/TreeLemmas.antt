@@ -1,5 +1,5 @@
 -- Leaf by leaf, and claim by claim.
-use Rattle.tpl_model.specs.declared.rule_set.RuleSet.TheVariants.{Narrow}
+use Rattle.tpl_model.specs.declared.rule_set.RuleSet.TheVariants.{WithoutTokens}
 use Rattle.std.proofs.Common.{◌≡◌, ℕ, zero, suc, ◌+◌, ◌<◌, ◌≤◌, ◌&&◌, Bool, true, Option, Some, None, Result, Ok, Err, List, [], ◌∷◌, drop, length, refl, sym, ap, ◌∙◌, slice_index_or, nat_lt, inl, inr, arith}
 use Rattle.std.specs.Prelude.{IfOk}
 use Rattle.std.proofs.lemmas.Bool.{cases_lt, ltb-true, and_parts}
@@ -7,7 +7,7 @@ use Rattle.std.proofs.lemmas.List.{drop_more}
 use Rattle.tpl_laws.proofs.FaultsDecided.{no_unless}
 use Rattle.tpl_model.specs.Graph.{TaskGraph}
 use Rattle.tpl_model.specs.Claims.{Claim}
-use Rattle.tpl_model.specs.Certificate.{Row, row, Tree, assumed_for}
+use Rattle.tpl_model.specs.Certificate.{PlainRow, row, Tree, assumed_for}
 use Rattle.tpl_model.specs.declared.fault.CertFault.{CertFault}
 use Rattle.tpl_model.specs.declared.fault.CertFault.TheVariants.{Shape}
 use Rattle.tpl_laws.specs.Verdict.{or_else, has_tasks, rows_fit, tree_fault, claims_fault}
@@ -28,7 +28,7 @@ pub failing_second : (a b : Option CertFault) (n m : ℕ) (r : Result ℕ CertFa
 failing_second a b n m (Ok k) e same f = (or_else_second a b e ∙ f.0, f.1 ∙ same)
 failing_second a b n m (Err x) e same f = or_else_second a b e ∙ f
 
-pub chain_fits : (g : TaskGraph) (rows : List Row) (t : ℕ) → rows_fit g rows ≡ true → t < length rows → has_tasks g (row rows t).chain ≡ true
+pub chain_fits : (g : TaskGraph) (rows : List PlainRow) (t : ℕ) → rows_fit g rows ≡ true → t < length rows → has_tasks g (row rows t).chain ≡ true
 chain_fits g [] t e lt = absurd (omega arith)
 chain_fits g (r ∷ rows) zero e lt =
     let s = and_parts (has_tasks g r.before && (has_tasks g r.past && has_tasks g r.chain)) (rows_fit g rows) e in
@@ -49,7 +49,7 @@ pub record FindsFaults {T : Type 0} (fault_of : ℕ → Claim → T → Option C
 
 -- the fault of a tree of the n-th claim
 abbrev pub fault_of_claim : TaskGraph → ℕ → Claim → Tree → Option CertFault
-fault_of_claim g n c t = tree_fault g c.body n (assumed_for Narrow g c) 1 t
+fault_of_claim g n c t = tree_fault g c.body n (assumed_for WithoutTokens g c) 1 t
 
 pub finds_faults : (g : TaskGraph) → FindsFaults (fault_of_claim g) (claims_fault g)
 finds_faults g = record { none = λ n ts. refl; next = λ n c cs t ts. refl }

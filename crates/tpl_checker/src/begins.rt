@@ -3,7 +3,7 @@
 ghost use Rattle.std.specs.Prelude.{◌≡◌, length};
 ghost use Rattle.tpl_checker.specs.Prelude.{AreBodies};
 ghost use Rattle.tpl_laws.specs.Prelude.{runs, runs_by};
-ghost use Rattle.tpl_model.specs.Prelude.{Assumed, Child, Continues, is_task, options};
+ghost use Rattle.tpl_model.specs.Prelude.{Assumed, Child, Continues, is_task, options, plain};
 
 use crate::bodies::Bodies;
 use crate::parents::parent;
@@ -16,9 +16,9 @@ use tpl_trees::Row;
 /// continuation run after, or its parent may start it.
 pub(crate) fn runs(graph: &Graph, rows: &[Row], bodies: &Bodies, task: TaskId) -> bool
     requires task { is_task graph.now.graph task.0 }
-    requires rows { length rows.now ≡ length graph.now.graph.tasks }
-    ensures { (l : Assumed) → AreBodies graph.now.graph l rows.now bodies.now
-        → result ≡ runs graph.now.graph l rows.now task.0 }
+    requires rows { length (plain rows.now) ≡ length graph.now.graph.tasks }
+    ensures { (l : Assumed) → AreBodies graph.now.graph l (plain rows.now) bodies.now
+        → result ≡ runs graph.now.graph l (plain rows.now) task.0 }
 {
     match graph.role(task) {
         Role::Root => row(rows, task).runs(),
@@ -31,8 +31,8 @@ pub(crate) fn runs(graph: &Graph, rows: &[Row], bodies: &Bodies, task: TaskId) -
 fn runs_after(graph: &Graph, rows: &[Row], task: TaskId, antecedent: TaskId) -> bool
     requires task { is_task graph.now.graph task.0 }
     requires antecedent { is_task graph.now.graph antecedent.0 }
-    requires rows { length rows.now ≡ length graph.now.graph.tasks }
-    ensures { (l : Assumed) → result ≡ runs_by graph.now.graph l rows.now task.0
+    requires rows { length (plain rows.now) ≡ length graph.now.graph.tasks }
+    ensures { (l : Assumed) → result ≡ runs_by graph.now.graph l (plain rows.now) task.0
         (Continues antecedent.0) }
 {
     let ends = allowed(row(rows, antecedent).ends(), graph.options(task));
@@ -41,9 +41,9 @@ fn runs_after(graph: &Graph, rows: &[Row], task: TaskId, antecedent: TaskId) -> 
 
 fn runs_if_started(graph: &Graph, rows: &[Row], bodies: &Bodies, task: TaskId) -> bool
     requires task { is_task graph.now.graph task.0 }
-    requires rows { length rows.now ≡ length graph.now.graph.tasks }
-    ensures { (l : Assumed) → AreBodies graph.now.graph l rows.now bodies.now
-        → result ≡ runs_by graph.now.graph l rows.now task.0 Child }
+    requires rows { length (plain rows.now) ≡ length graph.now.graph.tasks }
+    ensures { (l : Assumed) → AreBodies graph.now.graph l (plain rows.now) bodies.now
+        → result ≡ runs_by graph.now.graph l (plain rows.now) task.0 Child }
 {
     match parent(graph, task) {
         None => true,

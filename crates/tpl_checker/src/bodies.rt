@@ -2,7 +2,7 @@
 
 ghost use Rattle.std.specs.Prelude.{◌≡◌, ◌+◌, [], length};
 ghost use Rattle.tpl_checker.specs.Prelude.{AreBodies, AreFirstBodies, assumed_of};
-ghost use Rattle.tpl_model.specs.Prelude.{is_task};
+ghost use Rattle.tpl_model.specs.Prelude.{is_task, plain};
 
 use crate::assumptions::Assumptions;
 use crate::rows::with_if;
@@ -52,8 +52,8 @@ impl Bodies {
 
     /// The sets for all bodies of the graph, each of which is read once.
     pub(crate) fn of_leaf(graph: &Graph, assumed: &Assumptions, rows: &[Row]) -> Bodies
-        requires { length rows.now ≡ length graph.now.graph.tasks }
-        ensures { AreBodies graph.now.graph (assumed_of assumed.now) rows.now result }
+        requires { length (plain rows.now) ≡ length graph.now.graph.tasks }
+        ensures { AreBodies graph.now.graph (assumed_of assumed.now) (plain rows.now) result }
     {
         let mut bodies = Bodies::none();
         for task in 0..graph.len() {
@@ -65,9 +65,10 @@ impl Bodies {
     /// The sets, with the body of one more task.
     fn with(self, graph: &Graph, assumed: &Assumptions, rows: &[Row], task: TaskId) -> Bodies
         requires task { is_task graph.now.graph task.0 }
-        requires rows { length rows.now ≡ length graph.now.graph.tasks }
-        ensures { AreFirstBodies graph.now.graph (assumed_of assumed.now) rows.now task.0 self
-            → AreFirstBodies graph.now.graph (assumed_of assumed.now) rows.now (task.0 + 1) result }
+        requires rows { length (plain rows.now) ≡ length graph.now.graph.tasks }
+        ensures { AreFirstBodies graph.now.graph (assumed_of assumed.now) (plain rows.now) task.0
+            self → AreFirstBodies graph.now.graph (assumed_of assumed.now) (plain rows.now) (task.0
+            + 1) result }
     {
         graph.valid_law();
         tpl_model::may_is_right();

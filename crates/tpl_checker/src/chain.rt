@@ -5,7 +5,7 @@ ghost use Rattle.tpl_checker.specs.Prelude.{assumed_of};
 ghost use Rattle.tpl_draft.specs.Prelude.{task_number};
 ghost use Rattle.tpl_graph.specs.Prelude.{AreTasks};
 ghost use Rattle.tpl_laws.specs.Prelude.{chain, chain_by, continues, faulted_view, has_tasks, is_argument, reads, takes_over};
-ghost use Rattle.tpl_model.specs.Prelude.{attached, body, is_task, kind, must_observe, row};
+ghost use Rattle.tpl_model.specs.Prelude.{attached, body, is_task, kind, must_observe, plain, row};
 
 use crate::assumptions::Assumptions;
 use crate::rows::{is_member, row};
@@ -17,9 +17,9 @@ use tpl_trees::Row;
 /// The chain of the row of the task, if it has one, leads to a reader.
 pub(crate) fn chain(graph: &Graph, assumed: &Assumptions, rows: &[Row], task: TaskId) -> bool
     requires task { is_task graph.now.graph task.0 }
-    requires rows { length rows.now ≡ length graph.now.graph.tasks }
-    requires ids { IsTrue (has_tasks graph.now.graph (row rows.now task.0).chain) }
-    ensures { result ≡ chain graph.now.graph (assumed_of assumed.now) rows.now task.0 }
+    requires rows { length (plain rows.now) ≡ length graph.now.graph.tasks }
+    requires ids { IsTrue (has_tasks graph.now.graph (row (plain rows.now) task.0).chain) }
+    ensures { result ≡ chain graph.now.graph (assumed_of assumed.now) (plain rows.now) task.0 }
 {
     leads_to_reader(graph, assumed, task, row(rows, task).chain())
 }

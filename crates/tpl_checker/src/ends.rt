@@ -5,7 +5,7 @@ ghost use Rattle.tpl_checker.specs.Prelude.{AreBodies, assumed_of};
 ghost use Rattle.tpl_draft.specs.Prelude.{task_number};
 ghost use Rattle.tpl_graph.specs.Prelude.{AreTasks};
 ghost use Rattle.tpl_laws.specs.Prelude.{all_may_end, body_may_end, ends, implies, may_be_canceled, may_end_as};
-ghost use Rattle.tpl_model.specs.Prelude.{Assumed, Child, Continues, Root, TaskGraph, WhenAny, attached, body, end_left, has, is_final, is_task, kind, mem, reaches, row, some_in, view};
+ghost use Rattle.tpl_model.specs.Prelude.{Assumed, Child, Continues, Root, TaskGraph, WhenAny, attached, body, end_left, has, is_final, is_task, kind, mem, plain, reaches, row, some_in, view};
 ghost use Rattle.tpl_model.specs.declared.finals.Final.TheVariants as finals;
 
 use crate::all_ends::AllEnds;
@@ -26,9 +26,9 @@ pub(crate) fn ends(
     task: TaskId,
 ) -> bool
     requires task { is_task graph.now.graph task.0 }
-    requires rows { length rows.now ≡ length graph.now.graph.tasks }
-    ensures { AreBodies graph.now.graph (assumed_of assumed.now) rows.now bodies.now
-        → result ≡ ends graph.now.graph (assumed_of assumed.now) rows.now task.0 }
+    requires rows { length (plain rows.now) ≡ length graph.now.graph.tasks }
+    ensures { AreBodies graph.now.graph (assumed_of assumed.now) (plain rows.now) bodies.now
+        → result ≡ ends graph.now.graph (assumed_of assumed.now) (plain rows.now) task.0 }
 {
     let found = may_end(graph, assumed, rows, bodies, task);
     let listed = row(rows, task).ends();
@@ -63,10 +63,10 @@ fn may_end(
     task: TaskId,
 ) -> Finals
     requires task { is_task graph.now.graph task.0 }
-    requires rows { length rows.now ≡ length graph.now.graph.tasks }
-    ensures { AreBodies graph.now.graph (assumed_of assumed.now) rows.now bodies.now
-        → (f : Final) → has result f ≡ may_end_as graph.now.graph (assumed_of assumed.now) rows.now
-        task.0 (kind graph.now.graph task.0) f }
+    requires rows { length (plain rows.now) ≡ length graph.now.graph.tasks }
+    ensures { AreBodies graph.now.graph (assumed_of assumed.now) (plain rows.now) bodies.now
+        → (f : Final) → has result f ≡ may_end_as graph.now.graph (assumed_of assumed.now)
+        (plain rows.now) task.0 (kind graph.now.graph task.0) f }
 {
     match graph.role(task) {
         Role::Root => ready_ends(graph, assumed, rows, bodies, task),
@@ -86,13 +86,13 @@ fn ready_ends(
     task: TaskId,
 ) -> Finals
     requires task { is_task graph.now.graph task.0 }
-    requires rows { length rows.now ≡ length graph.now.graph.tasks }
-    ensures root { AreBodies graph.now.graph (assumed_of assumed.now) rows.now bodies.now
-        → (f : Final) → has result f ≡ may_end_as graph.now.graph (assumed_of assumed.now) rows.now
-        task.0 Root f }
-    ensures child { AreBodies graph.now.graph (assumed_of assumed.now) rows.now bodies.now
-        → (f : Final) → has result f ≡ may_end_as graph.now.graph (assumed_of assumed.now) rows.now
-        task.0 Child f }
+    requires rows { length (plain rows.now) ≡ length graph.now.graph.tasks }
+    ensures root { AreBodies graph.now.graph (assumed_of assumed.now) (plain rows.now) bodies.now
+        → (f : Final) → has result f ≡ may_end_as graph.now.graph (assumed_of assumed.now)
+        (plain rows.now) task.0 Root f }
+    ensures child { AreBodies graph.now.graph (assumed_of assumed.now) (plain rows.now) bodies.now
+        → (f : Final) → has result f ≡ may_end_as graph.now.graph (assumed_of assumed.now)
+        (plain rows.now) task.0 Child f }
 {
     let ends = body_ends(graph, rows, bodies, task);
     let runs = row(rows, task).runs();
@@ -111,10 +111,10 @@ fn continued_ends(
 ) -> Finals
     requires task { is_task graph.now.graph task.0 }
     requires antecedent { is_task graph.now.graph antecedent.0 }
-    requires rows { length rows.now ≡ length graph.now.graph.tasks }
-    ensures { AreBodies graph.now.graph (assumed_of assumed.now) rows.now bodies.now
-        → (f : Final) → has result f ≡ may_end_as graph.now.graph (assumed_of assumed.now) rows.now
-        task.0 (Continues antecedent.0) f }
+    requires rows { length (plain rows.now) ≡ length graph.now.graph.tasks }
+    ensures { AreBodies graph.now.graph (assumed_of assumed.now) (plain rows.now) bodies.now
+        → (f : Final) → has result f ≡ may_end_as graph.now.graph (assumed_of assumed.now)
+        (plain rows.now) task.0 (Continues antecedent.0) f }
 {
     let ends = body_ends(graph, rows, bodies, task);
     with_canceled(
@@ -145,9 +145,9 @@ fn may_be_canceled(
 ) -> bool
     requires task { is_task graph.now.graph task.0 }
     requires antecedent { is_task graph.now.graph antecedent.0 }
-    requires rows { length rows.now ≡ length graph.now.graph.tasks }
-    ensures { result ≡ may_be_canceled graph.now.graph (assumed_of assumed.now) rows.now task.0
-        antecedent.0 }
+    requires rows { length (plain rows.now) ≡ length graph.now.graph.tasks }
+    ensures { result ≡ may_be_canceled graph.now.graph (assumed_of assumed.now) (plain rows.now)
+        task.0 antecedent.0 }
 {
     let options = graph.options(task);
     let ends = row(rows, antecedent).ends();
@@ -166,10 +166,10 @@ fn canceled_by_token(loud: bool, lazy: bool, may_be_final: bool) -> bool
 /// How the body of a task whose row runs may end it.
 fn body_ends(graph: &Graph, rows: &[Row], bodies: &Bodies, task: TaskId) -> Finals
     requires task { is_task graph.now.graph task.0 }
-    requires rows { length rows.now ≡ length graph.now.graph.tasks }
-    ensures { (l : Assumed) → AreBodies graph.now.graph l rows.now bodies.now
-        → (f : Final) → has result f ≡ ((row rows.now task.0).runs
-        && body_may_end graph.now.graph l rows.now task.0 f) }
+    requires rows { length (plain rows.now) ≡ length graph.now.graph.tasks }
+    ensures { (l : Assumed) → AreBodies graph.now.graph l (plain rows.now) bodies.now
+        → (f : Final) → has result f ≡ ((row (plain rows.now) task.0).runs
+        && body_may_end graph.now.graph l (plain rows.now) task.0 f) }
 {
     if !row(rows, task).runs() {
         return NO_END;
@@ -186,10 +186,10 @@ fn body_ends(graph: &Graph, rows: &[Row], bodies: &Bodies, task: TaskId) -> Fina
 /// An attached child may be started and end Faulted: its parent takes over its exceptions.
 fn child_may_fault(graph: &Graph, rows: &[Row], bodies: &Bodies, task: TaskId) -> bool
     requires task { is_task graph.now.graph task.0 }
-    requires rows { length rows.now ≡ length graph.now.graph.tasks }
-    ensures { (l : Assumed) → AreBodies graph.now.graph l rows.now bodies.now
-        → result ≡ some_in (λ c. reaches c (view graph.now.graph l rows.now task.0)
-        (body graph.now.graph task.0) && has (row rows.now c).ends finals.Faulted)
+    requires rows { length (plain rows.now) ≡ length graph.now.graph.tasks }
+    ensures { (l : Assumed) → AreBodies graph.now.graph l (plain rows.now) bodies.now
+        → result ≡ some_in (λ c. reaches c (view graph.now.graph l (plain rows.now) task.0)
+        (body graph.now.graph task.0) && has (row (plain rows.now) c).ends finals.Faulted)
         (attached graph.now.graph task.0) }
 {
     graph.valid_law();
@@ -198,9 +198,9 @@ fn child_may_fault(graph: &Graph, rows: &[Row], bodies: &Bodies, task: TaskId) -
 
 /// One of the tasks is in the set and may end Faulted.
 fn some_faults(rows: &[Row], started: &TaskSet, tasks: &[TaskId]) -> bool
-    requires { AreTasks (length rows.now) tasks.now }
-    ensures { result ≡ some_in (λ c. mem c started.now && has (row rows.now c).ends finals.Faulted)
-        (map task_number tasks.now) }
+    requires { AreTasks (length (plain rows.now)) tasks.now }
+    ensures { result ≡ some_in (λ c. mem c started.now && has (row (plain rows.now) c).ends
+        finals.Faulted) (map task_number tasks.now) }
 {
     for task in tasks {
         if started.contains(*task) && row(rows, *task).ends().faulted {
@@ -213,8 +213,9 @@ fn some_faults(rows: &[Row], started: &TaskSet, tasks: &[TaskId]) -> bool
 /// How a WhenAll task may end: Faulted if one argument is, else Canceled if one is, else
 /// RanToCompletion.
 fn all_end(rows: &[Row], args: &[TaskId]) -> Finals
-    requires { AreTasks (length rows.now) args.now }
-    ensures { (f : Final) → has result f ≡ all_may_end rows.now (map task_number args.now) f }
+    requires { AreTasks (length (plain rows.now)) args.now }
+    ensures { (f : Final) → has result f ≡ all_may_end (plain rows.now) (map task_number args.now)
+        f }
 {
     let mut found = AllEnds::none();
     for arg in args {
@@ -225,9 +226,9 @@ fn all_end(rows: &[Row], args: &[TaskId]) -> Finals
 
 /// A WhenAny task ends RanToCompletion, once one argument has ended.
 fn any_ends(rows: &[Row], args: &[TaskId]) -> Finals
-    requires { AreTasks (length rows.now) args.now }
+    requires { AreTasks (length (plain rows.now)) args.now }
     ensures { (g : TaskGraph) (l : Assumed) (t : ℕ) (f : Final) → has result f
-        ≡ may_end_as g l rows.now t (WhenAny (map task_number args.now)) f }
+        ≡ may_end_as g l (plain rows.now) t (WhenAny (map task_number args.now)) f }
 {
     Finals {
         ran: some_end(ends_of_one(rows, args)),

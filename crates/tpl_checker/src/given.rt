@@ -14,14 +14,14 @@ use tpl_graph::{Claim, Graph};
 use tpl_model::{Given, MOST_TOKENS, Property, RuleSet, TaskId, TokenId};
 
 /// What is assumed for a claim by these rules, before any split: what it takes as given, and by the
-/// wide ones for a claim about a beginning that the own token of the task that begins isn't requested.
+/// those with tokens for a claim about a beginning that the own token of the task that begins isn't requested.
 pub fn assumed_for(graph: &Graph, claim: &Claim, rules: RuleSet) -> Assumptions
     requires { Fits graph.now.graph claim.now }
     ensures { assumed_of result ≡ assumed_for rules graph.now.graph claim.now }
 {
     let own = match rules {
-        RuleSet::Narrow => None,
-        RuleSet::Wide => own_quiet(graph, claim.body()),
+        RuleSet::WithoutTokens => None,
+        RuleSet::WithTokens => own_quiet(graph, claim.body()),
     };
     assumed_with(graph, own, claim.given())
 }

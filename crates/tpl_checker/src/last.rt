@@ -2,7 +2,7 @@
 
 ghost use Rattle.std.specs.Prelude.{◌≡◌, ◌<◌, ℕ, length, IsTrue, IfSome};
 ghost use Rattle.tpl_checker.specs.Prelude.{AreBodies, IsLast, assumed_of};
-ghost use Rattle.tpl_model.specs.Prelude.{view};
+ghost use Rattle.tpl_model.specs.Prelude.{plain, view};
 
 use crate::assumptions::Assumptions;
 use crate::bodies::Bodies;
@@ -21,11 +21,11 @@ pub(crate) struct LastLeaf<'c> {
 
 /// Each body sees the same in another leaf as in the last one.
 fn sees_same(graph: &Graph, last: &LastLeaf<'_>, assumed: &Assumptions, rows: &[Row]) -> bool
-    requires last { length last.now.rows.now ≡ length graph.now.graph.tasks }
-    requires rows { length rows.now ≡ length graph.now.graph.tasks }
+    requires last { length (plain last.now.rows.now) ≡ length graph.now.graph.tasks }
+    requires rows { length (plain rows.now) ≡ length graph.now.graph.tasks }
     ensures { IsTrue result → (t : ℕ) → t < length graph.now.graph.tasks
-        → view graph.now.graph (assumed_of last.now.assumed) last.now.rows.now t
-        ≡ view graph.now.graph (assumed_of assumed.now) rows.now t }
+        → view graph.now.graph (assumed_of last.now.assumed) (plain last.now.rows.now) t
+        ≡ view graph.now.graph (assumed_of assumed.now) (plain rows.now) t }
 {
     if last.assumed.inputs != assumed.inputs || last.assumed.quiet != assumed.quiet {
         return false;
@@ -51,8 +51,8 @@ pub(crate) fn bodies_of<'c>(
     rows: &'c [Row],
 ) -> Bodies
     requires last { IfSome last.old (IsLast graph.now.graph) }
-    requires rows { length rows.now ≡ length graph.now.graph.tasks }
-    ensures bodies { AreBodies graph.now.graph (assumed_of assumed.now) rows.now result }
+    requires rows { length (plain rows.now) ≡ length graph.now.graph.tasks }
+    ensures bodies { AreBodies graph.now.graph (assumed_of assumed.now) (plain rows.now) result }
     ensures last { IfSome last.new (IsLast graph.now.graph) }
 {
     if let Some(before) = last.as_ref() {

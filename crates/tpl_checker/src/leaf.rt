@@ -4,7 +4,7 @@ ghost use Rattle.std.specs.Prelude.{◌≡◌, ◌↔◌, IsTrue, length};
 ghost use Rattle.tpl_checker.specs.Prelude.{AreBelow, AreBodies, assumed_of, fault_in};
 ghost use Rattle.tpl_graph.specs.Prelude.{TasksOf};
 ghost use Rattle.tpl_laws.specs.Prelude.{broken, first_broken, leaf_fault, past_rule, rows_fit};
-ghost use Rattle.tpl_model.specs.Prelude.{AcceptsTree, Leaf, is_task, kind};
+ghost use Rattle.tpl_model.specs.Prelude.{AcceptsTree, RowsLeaf, is_task, kind, plain};
 
 use crate::assumptions::Assumptions;
 use crate::before::before;
@@ -15,7 +15,7 @@ use crate::chain::chain;
 use crate::ends::ends;
 use crate::past::past;
 use crate::property::proves;
-use crate::shape::rows_fit;
+use crate::shape::{are_plain, rows_fit};
 use tpl_graph::{Graph, Role};
 use tpl_model::{Property, Rule, TaskId};
 use tpl_trees::Row;
@@ -30,8 +30,8 @@ pub enum LeafFault {
 }
 
 /// Whether a leaf with these rows is accepted: it has one row for each task, each id in it is the
-/// graph's, it is closed under what is assumed, and it proves the property. The tasks below are the
-/// graph's (`Below::of_graph`). No memory is taken.
+/// graph's, it says nothing of tokens, it is closed under what is assumed, and it proves the property.
+/// The tasks below are the graph's (`Below::of_graph`). No memory is taken.
 pub fn accepts_leaf(
     graph: &Graph,
     property: Property,
@@ -42,7 +42,7 @@ pub fn accepts_leaf(
     requires tasks { TasksOf graph.now.graph property }
     requires below { AreBelow graph.now.graph below.now }
     ensures { IsTrue result ↔ AcceptsTree graph.now.graph property (assumed_of assumed.now)
-        (Leaf rows.now) }
+        (RowsLeaf rows.now) }
 {
     graph.valid_law();
     tpl_laws::first_broken_is_right();
@@ -51,6 +51,9 @@ pub fn accepts_leaf(
         return false;
     }
     if !rows_fit(graph, rows) {
+        return false;
+    }
+    if !are_plain(rows) {
         return false;
     }
     let bodies = Bodies::of_leaf(graph, assumed, rows);
@@ -71,11 +74,12 @@ pub(crate) fn leaf_fault(
 ) -> Option<LeafFault>
     requires tasks { TasksOf graph.now.graph property }
     requires below { AreBelow graph.now.graph below.now }
-    requires rows { length rows.now ≡ length graph.now.graph.tasks }
-    requires ids { IsTrue (rows_fit graph.now.graph rows.now) }
-    requires bodies { AreBodies graph.now.graph (assumed_of assumed.now) rows.now bodies.now }
+    requires rows { length (plain rows.now) ≡ length graph.now.graph.tasks }
+    requires ids { IsTrue (rows_fit graph.now.graph (plain rows.now)) }
+    requires bodies { AreBodies graph.now.graph (assumed_of assumed.now) (plain rows.now)
+        bodies.now }
     ensures { fault_in result ≡ leaf_fault graph.now.graph property (assumed_of assumed.now)
-        rows.now }
+        (plain rows.now) }
 {
     if let Some(fault) = first_broken(graph, assumed, below, rows, bodies) {
         return Some(fault);
@@ -95,11 +99,12 @@ fn first_broken(
     bodies: &Bodies,
 ) -> Option<LeafFault>
     requires below { AreBelow graph.now.graph below.now }
-    requires rows { length rows.now ≡ length graph.now.graph.tasks }
-    requires ids { IsTrue (rows_fit graph.now.graph rows.now) }
-    requires bodies { AreBodies graph.now.graph (assumed_of assumed.now) rows.now bodies.now }
-    ensures { fault_in result ≡ first_broken graph.now.graph (assumed_of assumed.now) rows.now 0
-        (length graph.now.graph.tasks) }
+    requires rows { length (plain rows.now) ≡ length graph.now.graph.tasks }
+    requires ids { IsTrue (rows_fit graph.now.graph (plain rows.now)) }
+    requires bodies { AreBodies graph.now.graph (assumed_of assumed.now) (plain rows.now)
+        bodies.now }
+    ensures { fault_in result ≡ first_broken graph.now.graph (assumed_of assumed.now)
+        (plain rows.now) 0 (length graph.now.graph.tasks) }
 {
     for task in 0..graph.len() {
         let task = TaskId(task as u16);
@@ -121,10 +126,11 @@ fn broken(
 ) -> Option<Rule>
     requires task { is_task graph.now.graph task.0 }
     requires below { AreBelow graph.now.graph below.now }
-    requires rows { length rows.now ≡ length graph.now.graph.tasks }
-    requires ids { IsTrue (rows_fit graph.now.graph rows.now) }
-    requires bodies { AreBodies graph.now.graph (assumed_of assumed.now) rows.now bodies.now }
-    ensures { result ≡ broken graph.now.graph (assumed_of assumed.now) rows.now task.0 }
+    requires rows { length (plain rows.now) ≡ length graph.now.graph.tasks }
+    requires ids { IsTrue (rows_fit graph.now.graph (plain rows.now)) }
+    requires bodies { AreBodies graph.now.graph (assumed_of assumed.now) (plain rows.now)
+        bodies.now }
+    ensures { result ≡ broken graph.now.graph (assumed_of assumed.now) (plain rows.now) task.0 }
 {
     if !runs(graph, rows, bodies, task) {
         return Some(Rule::K1);

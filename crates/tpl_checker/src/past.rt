@@ -5,7 +5,7 @@ ghost use Rattle.tpl_checker.specs.Prelude.{AreBelow, assumed_of};
 ghost use Rattle.tpl_draft.specs.Prelude.{task_number};
 ghost use Rattle.tpl_graph.specs.Prelude.{AreTasks};
 ghost use Rattle.tpl_laws.specs.Prelude.{all_in, past, past_by};
-ghost use Rattle.tpl_model.specs.Prelude.{Assumed, Child, Continues, is_task, may_end_early, mem, row, some_in};
+ghost use Rattle.tpl_model.specs.Prelude.{Assumed, Child, Continues, is_task, may_end_early, mem, plain, row, some_in};
 
 use crate::assumptions::Assumptions;
 use crate::below::Below;
@@ -25,9 +25,9 @@ pub(crate) fn past(
     task: TaskId,
 ) -> bool
     requires task { is_task graph.now.graph task.0 }
-    requires rows { length rows.now ≡ length graph.now.graph.tasks }
+    requires rows { length (plain rows.now) ≡ length graph.now.graph.tasks }
     requires below { AreBelow graph.now.graph below.now }
-    ensures { result ≡ past graph.now.graph (assumed_of assumed.now) rows.now task.0 }
+    ensures { result ≡ past graph.now.graph (assumed_of assumed.now) (plain rows.now) task.0 }
 {
     graph.valid_law();
     let past = past_of(rows, task);
@@ -45,10 +45,10 @@ pub(crate) fn past(
 /// Past a child is also what is before its parent.
 fn is_past_child(graph: &Graph, below: &Below, rows: &[Row], task: TaskId) -> bool
     requires task { is_task graph.now.graph task.0 }
-    requires rows { length rows.now ≡ length graph.now.graph.tasks }
+    requires rows { length (plain rows.now) ≡ length graph.now.graph.tasks }
     requires below { AreBelow graph.now.graph below.now }
-    ensures { (l : Assumed) → result ≡ all_in (past_by graph.now.graph l rows.now task.0 Child)
-        (row rows.now task.0).past }
+    ensures { (l : Assumed) → result ≡ all_in (past_by graph.now.graph l (plain rows.now) task.0
+        Child) (row (plain rows.now) task.0).past }
 {
     graph.valid_law();
     match parent(graph, task) {
@@ -72,10 +72,10 @@ fn is_past_continuation(
 ) -> bool
     requires task { is_task graph.now.graph task.0 }
     requires antecedent { is_task graph.now.graph antecedent.0 }
-    requires rows { length rows.now ≡ length graph.now.graph.tasks }
+    requires rows { length (plain rows.now) ≡ length graph.now.graph.tasks }
     requires below { AreBelow graph.now.graph below.now }
-    ensures { result ≡ all_in (past_by graph.now.graph (assumed_of assumed.now) rows.now task.0
-        (Continues antecedent.0)) (row rows.now task.0).past }
+    ensures { result ≡ all_in (past_by graph.now.graph (assumed_of assumed.now) (plain rows.now)
+        task.0 (Continues antecedent.0)) (row (plain rows.now) task.0).past }
 {
     graph.valid_law();
     let past = past_of(rows, task);
@@ -88,8 +88,9 @@ fn is_past_continuation(
 /// A continuation that may be canceled while its antecedent runs.
 fn may_end_early(graph: &Graph, assumed: &Assumptions, rows: &[Row], task: TaskId) -> bool
     requires task { is_task graph.now.graph task.0 }
-    requires rows { length rows.now ≡ length graph.now.graph.tasks }
-    ensures { result ≡ may_end_early graph.now.graph (assumed_of assumed.now) rows.now task.0 }
+    requires rows { length (plain rows.now) ≡ length graph.now.graph.tasks }
+    ensures { result ≡ may_end_early graph.now.graph (assumed_of assumed.now) (plain rows.now)
+        task.0 }
 {
     let loud = assumed.is_loud(graph, task);
     let lazy = graph.options(task).lazy_cancellation();
@@ -99,10 +100,10 @@ fn may_end_early(graph: &Graph, assumed: &Assumptions, rows: &[Row], task: TaskI
 
 /// The tasks, and what is past one of them: WhenAll ends after each.
 fn settled_after_some(rows: &[Row], tasks: &[TaskId]) -> TaskSet
-    requires tasks { AreTasks (length rows.now) tasks.now }
-    requires limit { length rows.now ≤ MOST_TASKS }
+    requires tasks { AreTasks (length (plain rows.now)) tasks.now }
+    requires limit { length (plain rows.now) ≤ MOST_TASKS }
     ensures { (x : ℕ) → mem x result ≡ some_in (λ y. nat_eq x y
-        || mem x (row rows.now y).past) (map task_number tasks.now) }
+        || mem x (row (plain rows.now) y).past) (map task_number tasks.now) }
 {
     let mut settled = TaskSet::empty();
     for task in tasks {
@@ -113,10 +114,10 @@ fn settled_after_some(rows: &[Row], tasks: &[TaskId]) -> TaskSet
 
 /// Of the set, those that are settled after each of the tasks, since WhenAny may end after any one of them.
 fn settled_after_each(rows: &[Row], tasks: &[TaskId], set: &TaskSet) -> TaskSet
-    requires tasks { AreTasks (length rows.now) tasks.now }
-    requires limit { length rows.now ≤ MOST_TASKS }
+    requires tasks { AreTasks (length (plain rows.now)) tasks.now }
+    requires limit { length (plain rows.now) ≤ MOST_TASKS }
     ensures { (x : ℕ) → mem x result ≡ (mem x set.now && all_in (λ y. nat_eq x y
-        || mem x (row rows.now y).past) (map task_number tasks.now)) }
+        || mem x (row (plain rows.now) y).past) (map task_number tasks.now)) }
 {
     let mut settled = set.copy();
     for task in tasks {

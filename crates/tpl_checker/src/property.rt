@@ -4,7 +4,7 @@ ghost use Rattle.std.specs.Prelude.{◌≡◌, ◌&&◌, not, false, length};
 ghost use Rattle.tpl_checker.specs.Prelude.{AreBodies, assumed_of};
 ghost use Rattle.tpl_graph.specs.Prelude.{TasksOf};
 ghost use Rattle.tpl_laws.specs.Prelude.{each_end, implies, none_complete, proves};
-ghost use Rattle.tpl_model.specs.Prelude.{Assumed, begins_itself, has, is_task, kind, may_end, to_end};
+ghost use Rattle.tpl_model.specs.Prelude.{Assumed, begins_itself, has, is_task, kind, may_end, plain, to_end};
 ghost use Rattle.tpl_model.specs.declared.claim.Property.TheVariants.{Observed, Runs};
 
 use crate::assumptions::Assumptions;
@@ -23,9 +23,10 @@ pub(crate) fn proves(
     property: Property,
 ) -> bool
     requires tasks { TasksOf graph.now.graph property }
-    requires rows { length rows.now ≡ length graph.now.graph.tasks }
-    requires bodies { AreBodies graph.now.graph (assumed_of assumed.now) rows.now bodies.now }
-    ensures { result ≡ proves graph.now.graph (assumed_of assumed.now) rows.now property }
+    requires rows { length (plain rows.now) ≡ length graph.now.graph.tasks }
+    requires bodies { AreBodies graph.now.graph (assumed_of assumed.now) (plain rows.now)
+        bodies.now }
+    ensures { result ≡ proves graph.now.graph (assumed_of assumed.now) (plain rows.now) property }
 {
     match property {
         Property::Final(task, ends) => ends_only_in(row(rows, task).ends(), ends),
@@ -62,9 +63,11 @@ fn is_observed(
     task: TaskId,
 ) -> bool
     requires task { is_task graph.now.graph task.0 }
-    requires rows { length rows.now ≡ length graph.now.graph.tasks }
-    requires bodies { AreBodies graph.now.graph (assumed_of assumed.now) rows.now bodies.now }
-    ensures { result ≡ proves graph.now.graph (assumed_of assumed.now) rows.now (Observed task) }
+    requires rows { length (plain rows.now) ≡ length graph.now.graph.tasks }
+    requires bodies { AreBodies graph.now.graph (assumed_of assumed.now) (plain rows.now)
+        bodies.now }
+    ensures { result ≡ proves graph.now.graph (assumed_of assumed.now) (plain rows.now) (Observed
+        task) }
 {
     let has_chain = !row(rows, task).chain().is_empty();
     let faulted = row(rows, task).ends().faulted;
@@ -77,8 +80,8 @@ fn is_observed(
 /// run is complete.
 fn runs(graph: &Graph, rows: &[Row], task: TaskId) -> bool
     requires task { is_task graph.now.graph task.0 }
-    requires rows { length rows.now ≡ length graph.now.graph.tasks }
-    ensures { (l : Assumed) → result ≡ proves graph.now.graph l rows.now (Runs task) }
+    requires rows { length (plain rows.now) ≡ length graph.now.graph.tasks }
+    ensures { (l : Assumed) → result ≡ proves graph.now.graph l (plain rows.now) (Runs task) }
 {
     let canceled = row(rows, task).ends().canceled;
     begins_itself(graph, task) && !canceled || none_complete(graph, rows)
@@ -97,8 +100,8 @@ pub fn begins_itself(graph: &Graph, task: TaskId) -> bool
 
 /// No run is complete: a task that is no child can't end.
 fn none_complete(graph: &Graph, rows: &[Row]) -> bool
-    requires { length rows.now ≡ length graph.now.graph.tasks }
-    ensures { result ≡ none_complete graph.now.graph rows.now }
+    requires { length (plain rows.now) ≡ length graph.now.graph.tasks }
+    ensures { result ≡ none_complete graph.now.graph (plain rows.now) }
 {
     graph.valid_law();
     for number in 0..graph.len() {
@@ -113,8 +116,9 @@ fn none_complete(graph: &Graph, rows: &[Row]) -> bool
 /// The task is no child and can't end.
 fn is_stuck(graph: &Graph, rows: &[Row], task: TaskId) -> bool
     requires task { is_task graph.now.graph task.0 }
-    requires rows { length rows.now ≡ length graph.now.graph.tasks }
-    ensures { result ≡ (to_end (kind graph.now.graph task.0) false && not (may_end rows.now task.0)) }
+    requires rows { length (plain rows.now) ≡ length graph.now.graph.tasks }
+    ensures { result ≡ (to_end (kind graph.now.graph task.0) false && not (may_end (plain rows.now)
+        task.0)) }
 {
     has_to_end(graph, task) && !may_end(rows, task)
 }

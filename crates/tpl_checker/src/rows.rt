@@ -3,31 +3,31 @@
 ghost use Rattle.std.specs.Prelude.{◌≡◌, ℕ, ◌<◌, ◌≤◌, ◌&&◌, ◌||◌, length, nat_eq, Bool, map, not};
 ghost use Rattle.tpl_draft.specs.Prelude.{task_number};
 ghost use Rattle.tpl_laws.specs.Prelude.{all_in, implies, some_end};
-ghost use Rattle.tpl_model.specs.Prelude.{allows, has, may_end, mem, row};
+ghost use Rattle.tpl_model.specs.Prelude.{allows, has, may_end, mem, plain, row};
 
 use tpl_model::{Final, Finals, MOST_TASKS, Options, TaskId, TaskSet};
-use tpl_trees::Row;
+use tpl_trees::{PlainRow, Row};
 
 /// The row of a task.
-pub(crate) fn row(rows: &[Row], task: TaskId) -> &Row
-    requires { task.0 < length rows.now }
-    ensures { result.now ≡ row rows.now task.0 }
+pub(crate) fn row(rows: &[Row], task: TaskId) -> &PlainRow
+    requires { task.0 < length (plain rows.now) }
+    ensures { result.now ≡ row (plain rows.now) task.0 }
 {
-    &rows[task.0 as usize]
+    rows[task.0 as usize].row()
 }
 
 /// What is settled when a task begins, by its row.
 pub(crate) fn before_of(rows: &[Row], task: TaskId) -> &TaskSet
-    requires { task.0 < length rows.now }
-    ensures { result.now ≡ (row rows.now task.0).before }
+    requires { task.0 < length (plain rows.now) }
+    ensures { result.now ≡ (row (plain rows.now) task.0).before }
 {
     row(rows, task).before()
 }
 
 /// What is settled when it has ended, by its row.
 pub(crate) fn past_of(rows: &[Row], task: TaskId) -> &TaskSet
-    requires { task.0 < length rows.now }
-    ensures { result.now ≡ (row rows.now task.0).past }
+    requires { task.0 < length (plain rows.now) }
+    ensures { result.now ≡ (row (plain rows.now) task.0).past }
 {
     row(rows, task).past()
 }
@@ -41,8 +41,8 @@ pub fn some_end(finals: Finals) -> bool
 
 /// The task may end, by its row.
 pub(crate) fn may_end(rows: &[Row], task: TaskId) -> bool
-    requires { task.0 < length rows.now }
-    ensures { result ≡ may_end rows.now task.0 }
+    requires { task.0 < length (plain rows.now) }
+    ensures { result ≡ may_end (plain rows.now) task.0 }
 {
     some_end(row(rows, task).ends())
 }
@@ -78,9 +78,10 @@ pub fn implies(condition: bool, other: bool) -> bool
 
 /// The task and what is past it.
 pub(crate) fn settled_after(rows: &[Row], task: TaskId) -> TaskSet
-    requires row { task.0 < length rows.now }
-    requires limit { length rows.now ≤ MOST_TASKS }
-    ensures { (x : ℕ) → mem x result ≡ (nat_eq x task.0 || mem x (row rows.now task.0).past) }
+    requires row { task.0 < length (plain rows.now) }
+    requires limit { length (plain rows.now) ≤ MOST_TASKS }
+    ensures { (x : ℕ) → mem x result ≡ (nat_eq x task.0 || mem x (row (plain rows.now)
+        task.0).past) }
 {
     let mut settled = past_of(rows, task).copy();
     settled.insert(task);

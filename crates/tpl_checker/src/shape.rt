@@ -1,16 +1,16 @@
-//! Trees that fit their graph: each leaf has one row for each task, and each id is the graph's.
+//! Trees that fit their graph: they are plain, each leaf has one row for each task, and each id is the graph's.
 
 ghost use Rattle.std.specs.Prelude.{◌≡◌, ◌&&◌, ℕ, length, map, nat_lt};
 ghost use Rattle.tpl_draft.specs.Prelude.{task_number};
-ghost use Rattle.tpl_laws.specs.Prelude.{fits, has_tasks, misfit, rows_fit};
-ghost use Rattle.tpl_model.specs.Prelude.{mem};
+ghost use Rattle.tpl_laws.specs.Prelude.{are_plain, fits, has_tasks, is_none, misfit, rows_fit};
+ghost use Rattle.tpl_model.specs.Prelude.{mem, plain};
 
 use crate::rows::within;
 use tpl_graph::{Claim, Graph};
 use tpl_model::{CertFault, TaskId, TaskSet};
-use tpl_trees::{Node, Row, Tree};
+use tpl_trees::{Node, PlainRow, Row, Tree};
 
-/// Each leaf of the tree has one row for each task, and each id in it is the graph's.
+/// The tree is plain, each of its leaves has one row for each task, and each id in it is the graph's.
 pub(crate) fn fits(graph: &Graph, tree: &Tree) -> bool
     ensures { result ≡ fits graph.now.graph tree.now }
 {
@@ -26,25 +26,47 @@ pub(crate) fn fits(graph: &Graph, tree: &Tree) -> bool
                 && fits(graph, canceled)
                 && fits(graph, faulted)
         }
-        Node::Leaf(rows) => rows.len() == graph.len() && rows_fit(graph, rows),
+        Node::Leaf(rows) => {
+            rows.len() == graph.len() && rows_fit(graph, rows) && are_plain(rows)
+        }
+        Node::SplitWinner(..) | Node::Least => false,
     }
 }
 
 /// Each id in the rows is the graph's.
 pub(crate) fn rows_fit(graph: &Graph, rows: &[Row]) -> bool
-    ensures { result ≡ rows_fit graph.now.graph rows.now }
+    ensures { result ≡ rows_fit graph.now.graph (plain rows.now) }
 {
     let all = all_tasks(graph);
     for row in rows {
-        if !row_fits(graph, row, &all) {
+        if !row_fits(graph, row.row(), &all) {
             return false;
         }
     }
     true
 }
 
+/// The rows say nothing of tokens.
+pub(crate) fn are_plain(rows: &[Row]) -> bool
+    ensures { result ≡ are_plain rows.now }
+{
+    for row in rows {
+        if !is_plain(row) {
+            return false;
+        }
+    }
+    true
+}
+
+/// The row says nothing of tokens.
+fn is_plain(row: &Row) -> bool
+    ensures { result ≡ (is_none row.now.asked && is_none row.now.asks) }
+{
+    row.is_plain()
+}
+
 /// Each id in the row is the graph's, whose tasks are all of these.
-pub fn row_fits(graph: &Graph, row: &Row, all: &TaskSet) -> bool
+pub fn row_fits(graph: &Graph, row: &PlainRow, all: &TaskSet) -> bool
     requires { (x : ℕ) → mem x all.now ≡ nat_lt x (length graph.now.graph.tasks) }
     ensures { result ≡ (has_tasks graph.now.graph row.now.before
         && (has_tasks graph.now.graph row.now.past && has_tasks graph.now.graph row.now.chain)) }

@@ -4,7 +4,7 @@ ghost use Rattle.std.specs.Prelude.{◌≡◌, ◌+◌, ◌<◌, ◌^◌, IfSome
 ghost use Rattle.tpl_checker.specs.Prelude.{AreBelow, Failing, IsLast, assumed_of, why};
 ghost use Rattle.tpl_graph.specs.Prelude.{TasksOf};
 ghost use Rattle.tpl_laws.specs.Prelude.{at_leaf, fits, leaves, rows_fit, tree_fault};
-ghost use Rattle.tpl_model.specs.Prelude.{Leaf};
+ghost use Rattle.tpl_model.specs.Prelude.{RowsLeaf, plain};
 
 use crate::assumptions::Assumptions;
 use crate::below::Below;
@@ -70,6 +70,7 @@ pub(crate) fn tree_fault<'c>(
                 faulted,
             )
         }
+        Node::SplitWinner(..) | Node::Least => unreachable!(),
         Node::Leaf(rows) => leaf_at(graph, property, claim, below, assumed, first, last, rows),
     }
 }
@@ -87,12 +88,12 @@ fn leaf_at<'c>(
 ) -> Result<usize, CertFault>
     requires tasks { TasksOf graph.now.graph property }
     requires below { AreBelow graph.now.graph below.now }
-    requires rows { length rows.now ≡ length graph.now.graph.tasks }
-    requires ids { IsTrue (rows_fit graph.now.graph rows.now) }
+    requires rows { length (plain rows.now) ≡ length graph.now.graph.tasks }
+    requires ids { IsTrue (rows_fit graph.now.graph (plain rows.now)) }
     requires room { leaf + 1 < 2 ^ 64 }
     requires last { IfSome last.old (IsLast graph.now.graph) }
     ensures fault { Failing (tree_fault graph.now.graph property claim (assumed_of assumed.now) leaf
-        (Leaf rows.now)) (leaf + 1) result }
+        (RowsLeaf rows.now)) (leaf + 1) result }
     ensures last { IfSome last.new (IsLast graph.now.graph) }
 {
     let bodies = bodies_of(graph, last, assumed, rows);

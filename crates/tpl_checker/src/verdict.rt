@@ -16,7 +16,7 @@ use tpl_model::{CertFault, MOST_SPLITS, RuleSet};
 use tpl_trees::{Certificate, Tree};
 
 /// Checks that the certificate proves the claims of the graph, each of which can be asked of it, by the
-/// narrow rules.
+/// rules without tokens.
 ///
 /// The first fault is reported. `Shape` comes first, for the first claim that has it: it has no tree,
 /// or a tree has no claim, a leaf doesn't have one row for each task, or an id isn't the graph's. Then
@@ -67,7 +67,7 @@ fn claims_fault(graph: &Graph, claims: &[Claim], trees: &[Tree]) -> Result<(), C
     let mut last = None;
     for at in 0..claims.len() {
         let claim = &claims[at];
-        let given = assumed_for(graph, claim, RuleSet::Narrow);
+        let given = assumed_for(graph, claim, RuleSet::WithoutTokens);
         tree_fault(
             graph,
             claim.body(),

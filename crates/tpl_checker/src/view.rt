@@ -5,7 +5,7 @@ ghost use Rattle.tpl_checker.specs.Prelude.{assumed_of};
 ghost use Rattle.tpl_draft.specs.Prelude.{task_number};
 ghost use Rattle.tpl_graph.specs.Prelude.{AreTasks};
 ghost use Rattle.tpl_laws.specs.Prelude.{faulted_view};
-ghost use Rattle.tpl_model.specs.Prelude.{has, is_task, kind, known, one_ends, subject_set, view};
+ghost use Rattle.tpl_model.specs.Prelude.{has, is_task, kind, known, one_ends, plain, subject_set, view};
 
 use crate::assumptions::Assumptions;
 use crate::rows::{allowed, row};
@@ -23,8 +23,8 @@ pub(crate) const NO_END: Finals = Finals {
 /// What a task's body sees in the runs of a leaf. How its subject may have ended is read off the rows.
 pub(crate) fn view(graph: &Graph, assumed: &Assumptions, rows: &[Row], task: TaskId) -> View
     requires task { is_task graph.now.graph task.0 }
-    requires rows { length rows.now ≡ length graph.now.graph.tasks }
-    ensures { known result ≡ view graph.now.graph (assumed_of assumed.now) rows.now task.0 }
+    requires rows { length (plain rows.now) ≡ length graph.now.graph.tasks }
+    ensures { known result ≡ view graph.now.graph (assumed_of assumed.now) (plain rows.now) task.0 }
 {
     View {
         inputs: assumed.inputs,
@@ -57,8 +57,8 @@ pub(crate) fn faulted_view(graph: &Graph, assumed: &Assumptions, reader: TaskId)
 /// continuation run, or one of the arguments of an antecedent that is a WhenAny task.
 pub(crate) fn subject(graph: &Graph, rows: &[Row], task: TaskId) -> Finals
     requires task { is_task graph.now.graph task.0 }
-    requires rows { length rows.now ≡ length graph.now.graph.tasks }
-    ensures { (f : Final) → has result f ≡ subject_set graph.now.graph rows.now task.0
+    requires rows { length (plain rows.now) ≡ length graph.now.graph.tasks }
+    ensures { (f : Final) → has result f ≡ subject_set graph.now.graph (plain rows.now) task.0
         (kind graph.now.graph task.0) f }
 {
     match graph.role(task) {
@@ -72,8 +72,8 @@ pub(crate) fn subject(graph: &Graph, rows: &[Row], task: TaskId) -> Finals
 
 /// How one of the tasks ends.
 pub(crate) fn ends_of_one(rows: &[Row], tasks: &[TaskId]) -> Finals
-    requires { AreTasks (length rows.now) tasks.now }
-    ensures { (f : Final) → has result f ≡ one_ends (map task_number tasks.now) rows.now f }
+    requires { AreTasks (length (plain rows.now)) tasks.now }
+    ensures { (f : Final) → has result f ≡ one_ends (map task_number tasks.now) (plain rows.now) f }
 {
     let mut finals = NO_END;
     for task in tasks {

@@ -62,21 +62,21 @@ pub record RefutesDocument {R W : Type 0} (claim : Option ℕ) (remaining : R �
   pub refuted : result ≡ Failure → Refuted remaining from_old from_new contents to_old to_new claim
   pub unrefuted : result ≡ Success → Unrefuted remaining from_old from_new contents to_old to_new claim
 
--- what `verify` does with one document, by certificates with at most so many splits, in this style
-pub record VerifiesDocument {R W : Type 0} (depth : ℕ) (style : Style) (remaining : R → Option (List ℕ)) (from_old from_new : Counting R) (contents : W → Option (List ℕ)) (to_old to_new : Counting W) (result : Exit) : Type 0 where
-  pub streams : Streams remaining from_old from_new contents to_old to_new depth style result
+-- what `verify` does with one document, by certificates with at most so many splits and by so many random runs, in this style
+pub record VerifiesDocument {R W : Type 0} (depth runs : ℕ) (style : Style) (remaining : R → Option (List ℕ)) (from_old from_new : Counting R) (contents : W → Option (List ℕ)) (to_old to_new : Counting W) (result : Exit) : Type 0 where
+  pub streams : Streams remaining from_old from_new contents to_old to_new depth runs style result
   pub reads : calls_of from_new ≤ calls_of from_old + (longest + 2)
   pub judged : (result ≡ Success) ⊎ (result ≡ Failure)
       → Judged remaining from_old from_new contents to_old to_new style result
   pub verified : (result ≡ Success) ⊎ (result ≡ Failure)
-      → Verified remaining from_old from_new contents to_old to_new depth style result
+      → Verified remaining from_old from_new contents to_old to_new depth runs style result
 
 -- what `verify` does: the claims of one document are answered, or those of the document on each line
-abbrev pub VerifiesAs : {R W : Type 0} → Bool → ℕ → Style → (R → Option (List ℕ)) → Counting R → Counting R → (W → Option (List ℕ)) → Counting W → Counting W → Exit → Type 0
-VerifiesAs false depth style remaining from_old from_new contents to_old to_new result =
-    VerifiesDocument depth style remaining from_old from_new contents to_old to_new result
-VerifiesAs true depth style remaining from_old from_new contents to_old to_new result =
-    RespondsToEach (Verifies depth style) remaining from_old from_new contents to_old to_new result
+abbrev pub VerifiesAs : {R W : Type 0} → Bool → (depth runs : ℕ) → Style → (R → Option (List ℕ)) → Counting R → Counting R → (W → Option (List ℕ)) → Counting W → Counting W → Exit → Type 0
+VerifiesAs false depth runs style remaining from_old from_new contents to_old to_new result =
+    VerifiesDocument depth runs style remaining from_old from_new contents to_old to_new result
+VerifiesAs true depth runs style remaining from_old from_new contents to_old to_new result =
+    RespondsToEach (Verifies depth runs style) remaining from_old from_new contents to_old to_new result
 
 -- what `trace` does
 pub record TracesDocument {R W : Type 0} (remaining : R → Option (List ℕ)) (from_old from_new : Counting R) (contents : W → Option (List ℕ)) (to_old to_new : Counting W) (result : Exit) : Type 0 where
@@ -102,7 +102,7 @@ Does (line.Run workers is_whole) remaining from_old from_new contents to_old to_
 Does (line.Refute claim tries explains) remaining from_old from_new contents to_old to_new result =
     RefutesDocument claim remaining from_old from_new contents to_old to_new result
 Does (line.Verify depth tries jobs style is_each) remaining from_old from_new contents to_old to_new result =
-    VerifiesAs is_each depth style remaining from_old from_new contents to_old to_new result
+    VerifiesAs is_each depth tries.runs style remaining from_old from_new contents to_old to_new result
 Does line.Trace remaining from_old from_new contents to_old to_new result =
     TracesDocument remaining from_old from_new contents to_old to_new result
 Does line.AuditPage remaining from_old from_new contents to_old to_new result =

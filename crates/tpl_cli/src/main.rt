@@ -260,8 +260,8 @@ fn verify_one<R: Threads + Wait + Sync, I: Read, O: Write + Send>(
     to: &mut Counting<O>,
 ) -> Exit
     requires { 0 < asked.jobs }
-    ensures { VerifiesDocument asked.limits.depth asked.style I.remaining from.old from.new
-        O.contents to.old to.new result }
+    ensures { VerifiesDocument asked.limits.depth asked.limits.runs asked.style I.remaining
+        from.old from.new O.contents to.old to.new result }
 {
     let progress = ClaimProgress::beside(rt, asked.style, teller.seen());
     let teller = teller.of_search();
@@ -280,8 +280,8 @@ fn verify<R: Threads + Wait + Sync, I: Read, O: Write + Send>(
     to: &mut Counting<O>,
 ) -> Exit
     requires { AreThreads jobs }
-    ensures { VerifiesAs is_each command.limits.depth command.style I.remaining from.old from.new
-        O.contents to.old to.new result }
+    ensures { VerifiesAs is_each command.limits.depth command.limits.runs command.style
+        I.remaining from.old from.new O.contents to.old to.new result }
 {
     if is_each {
         return answer_each(rt, threads, &command, jobs, from, to);

@@ -2,10 +2,10 @@
 use Rattle.std.proofs.Common.{◌≡◌, ℕ, List, get_or, inl, inr, codes, refl, subst}
 use Rattle.std.specs.List.{All}
 use Rattle.tpl_model.specs.declared.rule_set.RuleSet.{RuleSet}
-use Rattle.tpl_model.specs.WiderRules.{WideTree}
+use Rattle.tpl_model.specs.Certificate.{Tree}
 use Rattle.tpl_laws.specs.ByRules.{AcceptsBy}
-use Rattle.tpl_cert.proofs.ReadWithin.{read_wide_within}
-use Rattle.tpl_trees.specs.WideHeights.{IsWithinWideLimits}
+use Rattle.tpl_cert.proofs.ReadWithin.{read_within}
+use Rattle.tpl_trees.specs.Heights.{IsWithinLimits}
 use Rattle.tpl_cert.specs.Written.{tree_data}
 use Rattle.tpl_draft.specs.Named.{Names}
 use Rattle.tpl_reader.specs.declared.fault.ReadFault.{ReadFault}
@@ -39,10 +39,10 @@ only_accepted one faultless bytes doc spelled accepted exit text (inl found) =
 only_accepted one faultless bytes doc spelled accepted exit text (inr wrong) =
     absurd (unreadable_never wrong.0 text (faultless bytes doc wrong.0 spelled wrong.1) wrong.3)
 
-pub within : (rules : RuleSet) (n : Names) (trees : List WideTree) → All (IsRead rules n) trees → All IsWithinWideLimits trees → All (IsReadBack rules n) trees
-within rules n trees read limits = λ k t lt. read_wide_within rules n (tree_data rules n (get_or trees k t)) (get_or trees k t) (read k t lt) (limits k t lt)
+pub within : (rules : RuleSet) (n : Names) (trees : List Tree) → All (IsRead rules n) trees → All IsWithinLimits trees → All (IsReadBack rules n) trees
+within rules n trees read limits = λ k t lt. read_within rules n (tree_data rules n (get_or trees k t)) (get_or trees k t) (read k t lt) (limits k t lt)
 
-pub taken_back : SpellsOneDocument → SpelledHasNoFault → CertificateIsReadBack → (doc : DocumentValue) (trees : List WideTree)
+pub taken_back : SpellsOneDocument → SpelledHasNoFault → CertificateIsReadBack → (doc : DocumentValue) (trees : List Tree)
     → AcceptsBy (rules_of doc) doc.graph.graph doc.claims trees → All (IsReadBack (rules_of doc) doc.graph.names) trees → CanBePut doc trees (written_trees doc trees)
 taken_back one faultless put doc trees accepted read input bytes spelled holds le =
     let again = put input bytes doc trees spelled read holds le in

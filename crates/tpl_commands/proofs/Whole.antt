@@ -7,9 +7,9 @@ use Rattle.serde_json.specs.View.{items_of}
 use Rattle.serde_json.proofs.Nesting.{depth-read}
 use Rattle.tpl_json.proofs.Puts.{depth_put}
 use Rattle.tpl_model.specs.declared.rule_set.RuleSet.{RuleSet}
-use Rattle.tpl_model.specs.WiderRules.{WideTree}
+use Rattle.tpl_model.specs.Certificate.{Tree}
 use Rattle.tpl_draft.specs.Named.{Names}
-use Rattle.tpl_trees.specs.WideHeights.{wide_height, IsWithinWideLimits}
+use Rattle.tpl_trees.specs.Heights.{height, IsWithinLimits}
 use Rattle.tpl_cert.specs.Written.{tree_data, certificate_data}
 use Rattle.tpl_cert.proofs.Nesting.{tree_depth}
 use Rattle.std.specs.declared.alloc.AllocError.{AllocError}
@@ -26,16 +26,16 @@ use Rattle.tpl_commands.specs.Proof.{proof_data, rules_for, trees_of}
 use Rattle.tpl_commands.specs.Rules.{rules_of}
 use Rattle.tpl_commands.specs.Searching.{CanBePut, IsFoundBy, written_trees}
 
-trees_depth : (rules : RuleSet) (n : Names) (trees : List WideTree) → All IsWithinWideLimits trees → items_depth (items_of (map (tree_data rules n) trees)) ≤ 10
+trees_depth : (rules : RuleSet) (n : Names) (trees : List Tree) → All IsWithinLimits trees → items_depth (items_of (map (tree_data rules n) trees)) ≤ 10
 trees_depth rules n [] low = omega arith
 trees_depth rules n (t ∷ trees) low =
     let first = tree_depth rules n t in
-    let six : wide_height t ≤ 6 = (low 0 t (omega arith)).0 in
+    let six : height t ≤ 6 = (low 0 t (omega arith)).0 in
     let rest = trees_depth rules n trees (λ k x lt. low (suc k) x (omega arith)) in
     omega arith
 
 -- with a certificate in its place a value that was read nests no deeper than what is read
-pub whole_depth : (rules : RuleSet) (n : Names) (trees : List WideTree) (bytes : List ℕ) (d with : Data) → All IsWithinWideLimits trees → read bytes ≡ Some d → HasCertificate d (certificate_data rules n trees) with → depth with ≤ max_depth
+pub whole_depth : (rules : RuleSet) (n : Names) (trees : List Tree) (bytes : List ℕ) (d with : Data) → All IsWithinLimits trees → read bytes ≡ Some d → HasCertificate d (certificate_data rules n trees) with → depth with ≤ max_depth
 whole_depth rules n trees bytes d with low is has =
     let ms = has.0 in
     let below : depth (object ms) ≤ max_depth = subst (λ (x : Data). depth x ≤ max_depth) has.1 (depth-read bytes d is) in

@@ -1,6 +1,8 @@
 -- The ids of a certificate that is accepted.
-use Rattle.std.proofs.Common.{◌≡◌, ℕ, ◌<◌, List, [], ◌∷◌, length, map, true, inl, inr, refl, sym, subst, arith}
-use Rattle.std.specs.List.{list_all}
+use Rattle.std.proofs.Common.{◌≡◌, ℕ, ◌<◌, List, [], ◌∷◌, length, true, false, inl, inr, refl, sym, subst, arith}
+use Rattle.std.specs.List.{All, list_all}
+use Rattle.std.proofs.lemmas.List.Elements.{All-nil, All-cons}
+use Rattle.tpl_model.specs.declared.finals.Final.TheVariants.{RanToCompletion, Canceled, Faulted}
 use Rattle.std.proofs.lemmas.Bool.{cases_lt, lt-ltb}
 use Rattle.tpl_model.specs.Members.{mem}
 use Rattle.tpl_model.specs.Graph.{TaskGraph, TaskKind, Root, Child, Continues, WhenAll, WhenAny, kind, is_task, is_token}
@@ -9,14 +11,14 @@ use Rattle.tpl_model.specs.Claims.{Claim}
 use Rattle.tpl_model.specs.declared.ids.TaskId.{TaskId}
 use Rattle.tpl_model.specs.declared.claim.Property.{Property}
 use Rattle.tpl_model.specs.declared.rule_set.RuleSet.{RuleSet}
-use Rattle.tpl_model.specs.declared.rule_set.RuleSet.TheVariants.{Narrow, Wide}
-use Rattle.tpl_model.specs.Certificate.{AllTasks, IdsOfRows}
-use Rattle.tpl_model.specs.WiderRules.{WideRow, plain, WideAssumed, AllTokens, TokensOfRows, WideTree, OnInput, OnEnd, OnWinner, WideLeaf, LeastLeaf, MayHaveWinner, widely_assumed, as_wide_tree}
+use Rattle.tpl_model.specs.declared.rule_set.RuleSet.TheVariants.{WithoutTokens, WithTokens}
+use Rattle.tpl_model.specs.Certificate.{AllTasks, IdsOfRows, IsPlain, Assumed, with_input, with_end, assumed_for, AcceptsTree, Accepts, Row, plain, Tree, OnInput, OnEnd, OnWinner, RowsLeaf, LeastLeaf}
+use Rattle.tpl_model.specs.TokenRules.{LeafAssumed, AllTokens, TokensOfRows, MayHaveWinner, assumed_with_tokens}
 use Rattle.tpl_model.proofs.MemberLemmas.{mem_split}
 use Rattle.tpl_model.proofs.Truths.{true_false}
 use Rattle.tpl_laws.specs.ByRules.{AcceptsBy}
-use Rattle.tpl_laws.specs.WiderSoundness.{TokensAcceptMore}
-use Rattle.tpl_laws.specs.WideTrees.{AcceptsWideTree, WidelyAccepts}
+use Rattle.tpl_laws.specs.SoundnessWithTokens.{TokensAcceptMore}
+use Rattle.tpl_laws.specs.TokenTrees.{AcceptsTokenTree, AcceptsWithTokens}
 use Rattle.tpl_laws.proofs.Settling.{no_task}
 use Rattle.tpl_draft.specs.Named.{Names, Named}
 use Rattle.tpl_graph.specs.Kept.{IsNamedGraph}
@@ -41,7 +43,7 @@ module _ (n : Names) (g : TaskGraph) (valid : IsGraph g) (tasks : length n.tasks
   tokens_known [] all = refl
   tokens_known (k ∷ ks) all = rw (token_known k all.0, tokens_known ks all.1) refl
 
-  rows_known : (rows : List WideRow) → IdsOfRows g (plain rows) → TokensOfRows g rows → list_all (has_row_ids n) rows ≡ true
+  rows_known : (rows : List Row) → IdsOfRows g (plain rows) → TokensOfRows g rows → list_all (has_row_ids n) rows ≡ true
   rows_known [] ids ks = refl
   rows_known (r ∷ rows) ids ks =
       rw (tokens_known r.asked ks.0, tokens_known r.asks ks.1, tasks_known r.row.before ids.0, tasks_known r.row.past ids.1, tasks_known r.row.chain ids.2, rows_known rows ids.3 ks.2) refl
@@ -69,25 +71,42 @@ module _ (n : Names) (g : TaskGraph) (valid : IsGraph g) (tasks : length n.tasks
         | inr le ↦ absurd (subst (λ (k : TaskKind). MayHaveWinner k x) (no_task g t le).0 m)
       ]
 
-  tree_known : (p : Property TaskId) (t : WideTree) (l : WideAssumed) → AcceptsWideTree g p l t → has_ids n t ≡ true
+  tree_known : (p : Property TaskId) (t : Tree) (l : LeafAssumed) → AcceptsTokenTree g p l t → has_ids n t ≡ true
   tree_known p (OnInput i a b) l accepted = rw (input_known i accepted.0, tree_known p a _ accepted.1, tree_known p b _ accepted.2) refl
   tree_known p (OnEnd t a b c) l accepted = rw (task_known t accepted.0, tree_known p a _ accepted.1, tree_known p b _ accepted.2, tree_known p c _ accepted.3) refl
   tree_known p (OnWinner t x a b) l accepted =
       let known = winner_known t x accepted.0 in
       rw (known.0, known.1, tree_known p a _ accepted.1, tree_known p b _ accepted.2) refl
-  tree_known p (WideLeaf rows) l accepted = rows_known rows accepted.1 accepted.2
+  tree_known p (RowsLeaf rows) l accepted = rows_known rows accepted.1 accepted.2
   tree_known p LeastLeaf l accepted = refl
 
-  wide_known : (claims : List Claim) (trees : List WideTree) → WidelyAccepts g claims trees → list_all (has_ids n) trees ≡ true
-  wide_known [] [] accepted = refl
-  wide_known [] (t ∷ trees) accepted = absurd accepted
-  wide_known (claim ∷ claims) [] accepted = absurd accepted
-  wide_known (claim ∷ claims) (t ∷ trees) accepted =
-      rw (tree_known claim.body t (widely_assumed g claim) accepted.0, wide_known claims trees accepted.1) refl
+  known_with_tokens : (claims : List Claim) (trees : List Tree) → AcceptsWithTokens g claims trees → list_all (has_ids n) trees ≡ true
+  known_with_tokens [] [] accepted = refl
+  known_with_tokens [] (t ∷ trees) accepted = absurd accepted
+  known_with_tokens (claim ∷ claims) [] accepted = absurd accepted
+  known_with_tokens (claim ∷ claims) (t ∷ trees) accepted =
+      rw (tree_known claim.body t (assumed_with_tokens g claim) accepted.0, known_with_tokens claims trees accepted.1) refl
 
--- what the narrow rules accept, the wide ones do
-pub trees_known : TokensAcceptMore → (m : Named) → IsNamedGraph m → (rules : RuleSet) (claims : List Claim) (trees : List WideTree) → AcceptsBy rules m.graph claims trees → list_all (has_ids m.names) trees ≡ true
-trees_known more m law Narrow claims trees accepted =
-    subst (λ (ts : List WideTree). list_all (has_ids m.names) ts ≡ true) (sym accepted.1)
-    (wide_known m.names m.graph law.graph law.tasks law.tokens law.inputs claims (map as_wide_tree accepted.0) (more m.graph claims accepted.0 accepted.2))
-trees_known more m law Wide claims trees accepted = wide_known m.names m.graph law.graph law.tasks law.tokens law.inputs claims trees accepted
+-- what the rules without tokens accept, those with tokens do
+pub trees_known : TokensAcceptMore → (m : Named) → IsNamedGraph m → (rules : RuleSet) (claims : List Claim) (trees : List Tree) → AcceptsBy rules m.graph claims trees → list_all (has_ids m.names) trees ≡ true
+trees_known more m law WithoutTokens claims trees accepted = known_with_tokens m.names m.graph law.graph law.tasks law.tokens law.inputs claims trees (more m.graph claims trees accepted)
+trees_known more m law WithTokens claims trees accepted = known_with_tokens m.names m.graph law.graph law.tasks law.tokens law.inputs claims trees accepted
+
+-- what the rules without tokens accept is plain
+tree_plain : (g : TaskGraph) (p : Property TaskId) (l : Assumed) (t : Tree) → AcceptsTree g p l t → IsPlain t
+tree_plain g p l (OnInput i a b) accepted = (tree_plain g p (with_input l i true) a accepted.1, tree_plain g p (with_input l i false) b accepted.2)
+tree_plain g p l (OnEnd t a b c) accepted =
+    (tree_plain g p (with_end l t RanToCompletion) a accepted.1, tree_plain g p (with_end l t Canceled) b accepted.2, tree_plain g p (with_end l t Faulted) c accepted.3)
+tree_plain g p l (OnWinner n x a b) accepted = absurd accepted
+tree_plain g p l (RowsLeaf rows) accepted = accepted.4
+tree_plain g p l LeastLeaf accepted = absurd accepted
+
+all_plain : (g : TaskGraph) (claims : List Claim) (trees : List Tree) → Accepts g claims trees → All IsPlain trees
+all_plain g [] [] accepted = All-nil IsPlain
+all_plain g [] (t ∷ trees) accepted = absurd accepted
+all_plain g (claim ∷ claims) [] accepted = absurd accepted
+all_plain g (claim ∷ claims) (t ∷ trees) accepted = All-cons IsPlain t trees (tree_plain g claim.body (assumed_for WithoutTokens g claim) t accepted.0) (all_plain g claims trees accepted.1)
+
+pub plain_without_tokens : (rules : RuleSet) (g : TaskGraph) (claims : List Claim) (trees : List Tree) → AcceptsBy rules g claims trees → rules ≡ WithoutTokens → All IsPlain trees
+plain_without_tokens WithoutTokens g claims trees accepted e = all_plain g claims trees accepted
+plain_without_tokens WithTokens g claims trees accepted e = absurd cc

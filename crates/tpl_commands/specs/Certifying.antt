@@ -2,7 +2,7 @@
 use Rattle.std.specs.Prelude.{◌≡◌, ◌⊎◌, ◌≤◌, ◌<◌, ℕ, List, codes, length, string_bytes}
 use Rattle.serde_json.specs.Data.{Data, Members, object}
 use Rattle.tpl_draft.specs.Named.{Names}
-use Rattle.tpl_model.specs.WiderRules.{WideTree}
+use Rattle.tpl_model.specs.Certificate.{Tree}
 use Rattle.tpl_analyser.specs.declared.form.Form.{Form}
 use Rattle.tpl_reader.specs.Document.{DocumentValue, Reads, Spells, longest}
 use Rattle.tpl_reader.specs.Laws.{HoldsCertificate}
@@ -21,14 +21,14 @@ use Rattle.tpl_commands.specs.Searching.{written_trees, AreFound, IsTakenBack, I
 -- The text spells the document with such a certificate in place of its own, and no other document; the
 -- check accepts it, and so the claims hold.
 pub record IsCertified (depth : ℕ) (form : Form) (doc : DocumentValue) (text : List ℕ) : Type 0 where
-  pub trees : List WideTree
+  pub trees : List Tree
   pub found : AreFound depth form doc trees
   pub hold : ClaimsHold doc
   pub taken_back : IsTakenBack doc trees text
 
 -- A text of the document with such a certificate in its place is longer than what is read.
 pub record IsTooLong (depth : ℕ) (form : Form) (doc : DocumentValue) : Type 0 where
-  pub trees : List WideTree
+  pub trees : List Tree
   pub found : AreFound depth form doc trees
   pub input : List ℕ
   pub spelled : Spells input doc

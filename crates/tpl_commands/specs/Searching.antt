@@ -4,10 +4,10 @@ use Rattle.std.specs.List.{All}
 use Rattle.serde_json.specs.Data.{Data}
 use Rattle.serde_json.specs.Read.{read}
 use Rattle.serde_json.specs.Written.{compact_text}
-use Rattle.tpl_model.specs.WiderRules.{WideTree}
+use Rattle.tpl_model.specs.Certificate.{Tree}
 use Rattle.tpl_laws.specs.ByRules.{AcceptsBy}
 use Rattle.tpl_draft.specs.Named.{Names}
-use Rattle.tpl_trees.specs.WideHeights.{wide_height}
+use Rattle.tpl_trees.specs.Heights.{height}
 use Rattle.tpl_cert.specs.Written.{certificate_data}
 use Rattle.tpl_analyser.specs.declared.form.Form.{Form}
 use Rattle.tpl_analyser.specs.Gaps.{IsFirstWithout}
@@ -28,7 +28,7 @@ use Rattle.tpl_commands.specs.Documents.{ToDocument}
 use Rattle.tpl_commands.specs.Checking.{Checks, ClaimsHold}
 
 -- the JSON value that is written for trees by the rules of the document: an array of them
-abbrev pub written_trees : DocumentValue → List WideTree → Data
+abbrev pub written_trees : DocumentValue → List Tree → Data
 written_trees doc trees = certificate_data (rules_of doc) doc.graph.names trees
 
 -- whatever the check answers to a document of these bytes, it is `accepted`
@@ -37,29 +37,29 @@ IsOnlyAccepted bytes = (exit : Exit) (text : List ℕ) → Checks bytes exit tex
 
 -- The bytes spell the document with these trees as its certificate, and no other document, and the
 -- check accepts it.
-pub record IsTakenBack (doc : DocumentValue) (trees : List WideTree) (bytes : List ℕ) : Type 0 where
+pub record IsTakenBack (doc : DocumentValue) (trees : List Tree) (bytes : List ℕ) : Type 0 where
   pub spelled : Spells bytes (record doc { certificate = trees })
   pub only : (other : DocumentValue) → Spells bytes other → other ≡ record doc { certificate = trees }
   pub accepted : IsOnlyAccepted bytes
 
 -- Any text of the document with this value as its member `certificate`, if it isn't too long, is taken
 -- back with these trees.
-abbrev pub CanBePut : DocumentValue → List WideTree → Data → Type 0
+abbrev pub CanBePut : DocumentValue → List Tree → Data → Type 0
 CanBePut doc trees value =
     (input bytes : List ℕ) → Spells input doc → HoldsCertificate input value bytes → length bytes ≤ longest
     → IsTakenBack doc trees bytes
 
 -- where each tree's text spells it, the trees are read back, and the document with them is
-abbrev pub IsBackWhereRead : DocumentValue → List WideTree → Type 0
+abbrev pub IsBackWhereRead : DocumentValue → List Tree → Type 0
 IsBackWhereRead doc trees =
     All (IsRead (rules_of doc) doc.graph.names) trees
     → All (IsReadBack (rules_of doc) doc.graph.names) trees × CanBePut doc trees (written_trees doc trees)
 
 -- The trees are a certificate of this form with at most this many splits on each path, which is accepted
 -- for the document's claims.
-pub record AreFound (depth : ℕ) (form : Form) (doc : DocumentValue) (trees : List WideTree) : Type 0 where
+pub record AreFound (depth : ℕ) (form : Form) (doc : DocumentValue) (trees : List Tree) : Type 0 where
   pub accepted : AcceptsBy (rules_of doc) doc.graph.graph doc.claims trees
-  pub splits : All (λ tree. wide_height tree ≤ depth) trees
+  pub splits : All (λ tree. height tree ≤ depth) trees
   pub of_form : IsOfFormBy (rules_of doc) form doc.claims trees
 
 -- the certificate is one by the document's rules, and accepted for its claims
@@ -88,10 +88,10 @@ IsOutcomeText names (Missed claim ran_out) text = text ≡ not_found claim
 -- accepted for the document's claims, and so they hold. As the member `certificate` of the document it is read as
 -- these trees, and accepted.
 pub record IsCertificate (depth : ℕ) (form : Form) (doc : DocumentValue) (text : List ℕ) : Type 0 where
-  pub trees : List WideTree
+  pub trees : List Tree
   pub accepted : AcceptsBy (rules_of doc) doc.graph.graph doc.claims trees
   pub hold : ClaimsHold doc
-  pub splits : All (λ tree. wide_height tree ≤ depth) trees
+  pub splits : All (λ tree. height tree ≤ depth) trees
   pub of_form : IsOfFormBy (rules_of doc) form doc.claims trees
   pub value : read (compact_text (written_trees doc trees)) ≡ Some (written_trees doc trees)
   pub read : All (IsReadBack (rules_of doc) doc.graph.names) trees

@@ -5,6 +5,8 @@ ghost use Rattle.std.specs.List.{list_all};
 ghost use Rattle.serde_json.specs.View.{view};
 ghost use Rattle.tpl_cert.specs.Prelude.{has_ids};
 ghost use Rattle.tpl_commands.specs.Prelude.{IsCertifying, IsFoundBy, IsObject, IsRead, IsSearchOf, IsSized, IsTextOfObject, IsWholeText, proof_data, rules_for, trees_of};
+ghost use Rattle.tpl_model.specs.Prelude.{IsPlain};
+ghost use Rattle.tpl_model.specs.declared.rule_set.RuleSet.TheVariants.{WithoutTokens};
 ghost use Rattle.tpl_reader.specs.Prelude.{HasCertificate, HoldsCertificate, Reads, Spells, doc_of};
 
 use crate::answer::Answer;
@@ -88,6 +90,7 @@ fn whole_text(
 ) -> Result<String, AllocError>
     requires json { IsTextOfObject bytes.now }
     requires ids { list_all (has_ids graph.now.names) (trees_of proof.now) ≡ true }
+    requires plain { rules_for proof.now ≡ WithoutTokens → All IsPlain (trees_of proof.now) }
     ensures holds { IfOk result (λ text.
         HoldsCertificate bytes.now (proof_data graph.now.names proof.now) (string_bytes text)) }
     ensures read { IfOk result (λ _.
@@ -103,7 +106,8 @@ fn whole_text(
 
 /// The JSON value of the trees as one array.
 fn certificate_value(alloc: Global, graph: &Graph, proof: &Proof) -> Result<Value, AllocError>
-    requires { list_all (has_ids graph.now.names) (trees_of proof.now) ≡ true }
+    requires ids { list_all (has_ids graph.now.names) (trees_of proof.now) ≡ true }
+    requires plain { rules_for proof.now ≡ WithoutTokens → All IsPlain (trees_of proof.now) }
     ensures written { IfOk result (λ value. view value ≡ proof_data graph.now.names proof.now) }
     ensures read { IfOk result (λ _.
         All (IsRead (rules_for proof.now) graph.now.names) (trees_of proof.now)) }

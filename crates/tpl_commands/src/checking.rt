@@ -3,7 +3,7 @@
 ghost use Rattle.std.specs.Prelude.{◌≡◌, IfOk, string_bytes, All};
 ghost use Rattle.tpl_commands.specs.Prelude.{IsCheckOf, IsRefusal, IsVerdict, IsVerdictText, NamesTask, rules_of};
 ghost use Rattle.tpl_graph.specs.Prelude.{Fits};
-ghost use Rattle.tpl_model.specs.declared.rule_set.RuleSet.TheVariants.{Narrow, Wide};
+ghost use Rattle.tpl_model.specs.declared.rule_set.RuleSet.TheVariants.{WithoutTokens, WithTokens};
 ghost use Rattle.tpl_reader.specs.Prelude.{doc_of};
 
 use crate::answer::Answer;
@@ -15,7 +15,7 @@ use tpl_checker::check;
 use tpl_graph::Graph;
 use tpl_model::{CertFault, RuleSet};
 use tpl_reader::Document;
-use tpl_wide::{WideFault, check_wide};
+use tpl_token_check::{TokenFault, check_tokens};
 
 /// What the check says of the document's certificate by the rules of its version: nothing where it is accepted, else its
 /// first fault. Out of memory is the only error.
@@ -27,39 +27,38 @@ pub fn check_document(
     ensures { IfOk result (IsCheckOf (doc_of document.now)) }
 {
     match rules_of(document) {
-        RuleSet::Narrow => Ok(check_plain(document)),
-        RuleSet::Wide => check_with_tokens(alloc, document),
+        RuleSet::WithoutTokens => Ok(check_without_tokens(document)),
+        RuleSet::WithTokens => check_with_tokens(alloc, document),
     }
 }
 
-/// The same of a document whose trees say nothing of tokens and of winners.
-fn check_plain(document: &Document) -> Result<(), CertFault>
+/// The same by the rules without tokens.
+fn check_without_tokens(document: &Document) -> Result<(), CertFault>
     requires claims { All (Fits document.now.graph.graph) document.now.claims.items }
-    requires rules { rules_of (doc_of document.now) ≡ Narrow }
+    requires rules { rules_of (doc_of document.now) ≡ WithoutTokens }
     ensures { IsCheckOf (doc_of document.now) result }
 {
-    tpl_laws::plain_is_refused();
     let (graph, claims) = (&document.graph, &document.claims);
     check(graph, claims, &document.certificate)
 }
 
-/// The same of a document whose trees may speak of them.
+/// The same by the rules with tokens.
 fn check_with_tokens(
     alloc: Global,
     document: &Document,
 ) -> Result<Result<(), CertFault>, AllocError>
     requires claims { All (Fits document.now.graph.graph) document.now.claims.items }
-    requires rules { rules_of (doc_of document.now) ≡ Wide }
+    requires rules { rules_of (doc_of document.now) ≡ WithTokens }
     ensures { IfOk result (IsCheckOf (doc_of document.now)) }
 {
     document.graph.valid_law();
-    document.wide.limits_law();
-    tpl_laws::wide_fault_is_first();
+    document.certificate.limits_law();
+    tpl_laws::token_fault_is_first();
     let (graph, claims) = (&document.graph, &document.claims);
-    match check_wide(alloc, graph, claims, document.wide.trees()) {
+    match check_tokens(alloc, graph, claims, document.certificate.trees()) {
         Ok(()) => Ok(Ok(())),
-        Err(WideFault::Fails(fault)) => Ok(Err(fault)),
-        Err(WideFault::Memory) => Err(AllocError),
+        Err(TokenFault::Fails(fault)) => Ok(Err(fault)),
+        Err(TokenFault::Memory) => Err(AllocError),
     }
 }
 

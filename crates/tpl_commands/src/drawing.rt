@@ -13,10 +13,10 @@ use crate::exit::Exit;
 use crate::rules::rules_of;
 use std::alloc::{AllocError, Global};
 use tpl_audit::{Failure, Verdict, audit, statuses_after};
-use tpl_draw::{Failing, Language, Moment, Shown, endings, picture, wide_endings};
+use tpl_draw::{Failing, Language, Moment, Shown, endings_by, picture};
 use tpl_graph::Claim;
 use tpl_journal::{JournalFault, fault_is_no_journal, read_journal, text_is_unambiguous};
-use tpl_model::{CertFault, Event, Finals, Inputs, RuleSet};
+use tpl_model::{CertFault, Event, Finals, Inputs};
 use tpl_reader::Document;
 
 /// The picture of the document's graph: of its run, where its journal is one; else coloured where its certificate is
@@ -66,11 +66,9 @@ fn shown_endings(
     ensures { IfOk result (λ ends. AreEndings (doc_of document.now) ends.items) }
 {
     let (graph, claims) = (&document.graph, document.claims.as_slice());
+    let trees = document.certificate.trees();
     match verdict {
-        Ok(()) => match rules_of(document) {
-            RuleSet::Narrow => endings(alloc, document.certificate.trees(), graph.len()),
-            RuleSet::Wide => wide_endings(alloc, graph, claims, document.wide.trees()),
-        },
+        Ok(()) => endings_by(alloc, rules_of(document), graph, claims, trees),
         Err(_) => Ok(Vec::new(alloc)),
     }
 }

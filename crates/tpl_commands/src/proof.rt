@@ -1,4 +1,4 @@
-//! Certificates that a search finds, by the narrow rules or by the wide ones.
+//! Certificates that a search finds, by the rules of a document.
 
 ghost use Rattle.std.specs.Prelude.{◌≡◌, ◌≤◌, true, Ok, Err, IfOk, IfErr, Some, string_bytes, All};
 ghost use Rattle.std.specs.List.{list_all};
@@ -9,33 +9,37 @@ ghost use Rattle.tpl_cert.specs.Prelude.{has_ids};
 ghost use Rattle.tpl_commands.specs.Prelude.{IsRead, proof_data, rules_for, trees_of};
 ghost use Rattle.tpl_graph.specs.Prelude.{Fits};
 ghost use Rattle.tpl_laws.specs.Prelude.{AcceptsBy};
-ghost use Rattle.tpl_trees.specs.Prelude.{IsWithinWideLimits, wide_height};
+ghost use Rattle.tpl_model.specs.Prelude.{IsPlain};
+ghost use Rattle.tpl_model.specs.declared.rule_set.RuleSet.TheVariants.{WithoutTokens};
+ghost use Rattle.tpl_trees.specs.Prelude.{IsWithinLimits, height};
 
 use std::alloc::{AllocError, Global};
-use tpl_analyser::{Budget, Depth, Form, Gap, Watch, analyse_widely, analyse_within};
-use tpl_cert::{TreeToFault, trees_text, wide_trees_text};
+use tpl_analyser::{Budget, Depth, Form, Gap, Watch, analyse_by};
+use tpl_cert::{TreeToFault, trees_text};
 use tpl_graph::{Claim, Graph};
 use tpl_model::RuleSet;
-use tpl_trees::{Certificate, WideCertificate};
+use tpl_trees::{Certificate, Tree};
 
-/// A certificate of one of two sorts.
+/// A certificate, with the rules by which it is judged and written.
 #[derive(Drop)]
-pub enum Proof {
-    /// It says nothing of tokens and of winners, and is judged by the narrow rules.
-    Plain(Certificate),
-    /// It may speak of them, and is judged by the wide rules.
-    Wide(WideCertificate),
+pub struct Proof {
+    pub(crate) rules: RuleSet,
+    pub(crate) certificate: Certificate,
 }
 
 impl Proof {
     /// Each of its trees is within the limits.
     pub fn limits_law(&self)
-        ensures { All IsWithinWideLimits (trees_of self.now) }
+        ensures { All IsWithinLimits (trees_of self.now) }
     {
-        match self {
-            Proof::Plain(certificate) => certificate.limits_law(),
-            Proof::Wide(certificate) => certificate.limits_law(),
-        }
+        self.certificate.limits_law();
+    }
+
+    /// Its trees.
+    pub fn trees(&self) -> &[Tree]
+        ensures { result.now ≡ trees_of self.now }
+    {
+        self.certificate.trees()
     }
 }
 
@@ -55,21 +59,13 @@ pub fn find_proof<W: Watch>(
     ensures rules { IfOk result (λ proof. rules_for proof ≡ rules) }
     ensures accepted { IfOk result (λ proof.
         AcceptsBy rules graph.now.graph claims.now (trees_of proof)) }
-    ensures splits { IfOk result (λ proof. All (λ tree. wide_height tree ≤ depth) (trees_of proof)) }
+    ensures splits { IfOk result (λ proof. All (λ tree. height tree ≤ depth) (trees_of proof)) }
     ensures form { IfOk result (λ proof. IsOfFormBy rules form claims.now (trees_of proof)) }
     ensures gap { IfErr result (IsGap rules graph.now.graph claims.now depth) }
 {
     let splits = depth.splits();
-    match rules {
-        RuleSet::Narrow => {
-            let found = analyse_within(alloc, graph, claims, splits, form, budget)?;
-            Ok(Proof::Plain(found))
-        }
-        RuleSet::Wide => {
-            let found = analyse_widely(alloc, graph, claims, splits, form, budget)?;
-            Ok(Proof::Wide(found))
-        }
-    }
+    let certificate = analyse_by(alloc, graph, claims, rules, splits, form, budget)?;
+    Ok(Proof { rules, certificate })
 }
 
 /// The text that was written; out of memory is the only fault.
@@ -86,7 +82,8 @@ fn written(text: Result<String, TreeToFault>) -> Result<String, AllocError>
 
 /// The trees as one array.
 pub(crate) fn array_text(alloc: Global, graph: &Graph, proof: &Proof) -> Result<String, AllocError>
-    requires { list_all (has_ids graph.now.names) (trees_of proof.now) ≡ true }
+    requires ids { list_all (has_ids graph.now.names) (trees_of proof.now) ≡ true }
+    requires plain { rules_for proof.now ≡ WithoutTokens → All IsPlain (trees_of proof.now) }
     ensures written { IfOk result (λ text.
         string_bytes text ≡ compact_text (proof_data graph.now.names proof.now)) }
     ensures read { IfOk result (λ _.
@@ -94,14 +91,6 @@ pub(crate) fn array_text(alloc: Global, graph: &Graph, proof: &Proof) -> Result<
     ensures value { IfOk result (λ text.
         read (string_bytes text) ≡ Some (proof_data graph.now.names proof.now)) }
 {
-    match proof {
-        Proof::Plain(certificate) => {
-            certificate.limits_law();
-            written(trees_text(alloc, graph, certificate.trees()))
-        }
-        Proof::Wide(certificate) => {
-            certificate.limits_law();
-            written(wide_trees_text(alloc, graph, certificate.trees()))
-        }
-    }
+    proof.certificate.limits_law();
+    written(trees_text(alloc, graph, proof.rules, proof.certificate.trees()))
 }

@@ -8,6 +8,8 @@ ghost use Rattle.tpl_cert.specs.Prelude.{has_ids};
 ghost use Rattle.tpl_commands.specs.Prelude.{ClaimsHold, IsBackWhereRead, IsFoundBy, IsOutcomeText, IsProofOf, IsRead, IsSearchOf, IsSearching, proof_data, rules_for, trees_of};
 ghost use Rattle.tpl_commands.specs.Texts.{not_found as not_found_line};
 ghost use Rattle.tpl_graph.specs.Prelude.{Fits};
+ghost use Rattle.tpl_model.specs.Prelude.{IsPlain};
+ghost use Rattle.tpl_model.specs.declared.rule_set.RuleSet.TheVariants.{WithoutTokens};
 ghost use Rattle.tpl_reader.specs.Prelude.{doc_of};
 
 use crate::answer::Answer;
@@ -89,6 +91,7 @@ pub(crate) fn missed_answer(alloc: Global, claim: usize) -> Result<Answer, Alloc
 pub(crate) fn found_law(document: &Document, proof: &Proof)
     requires { IsProofOf (doc_of document.now) proof.now }
     ensures ids { list_all (has_ids document.now.graph.names) (trees_of proof.now) ≡ true }
+    ensures plain { rules_for proof.now ≡ WithoutTokens → All IsPlain (trees_of proof.now) }
     ensures hold { ClaimsHold (doc_of document.now) }
     ensures back { IsBackWhereRead (doc_of document.now) (trees_of proof.now) }
 {
@@ -146,7 +149,8 @@ pub(crate) fn found_answer(
 
 /// The trees as one array, and a line break.
 fn certificate_text(alloc: Global, graph: &Graph, proof: &Proof) -> Result<String, AllocError>
-    requires { list_all (has_ids graph.now.names) (trees_of proof.now) ≡ true }
+    requires ids { list_all (has_ids graph.now.names) (trees_of proof.now) ≡ true }
+    requires plain { rules_for proof.now ≡ WithoutTokens → All IsPlain (trees_of proof.now) }
     ensures written { IfOk result (λ text.
         string_bytes text ≡ compact_text (proof_data graph.now.names proof.now) ++ codes "\n") }
     ensures read { IfOk result (λ _.

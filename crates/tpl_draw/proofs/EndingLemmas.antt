@@ -1,50 +1,23 @@
 -- How tasks end by the rows of a certificate.
 use Rattle.tpl_model.specs.declared.rule_set.RuleSet.{RuleSet}
-use Rattle.std.proofs.Common.{◌≡◌, ℕ, inl, inr, Bool, true, false, Some, List, [], ◌∷◌, map, refl, sym, ap, subst}
+use Rattle.std.proofs.Common.{◌≡◌, ℕ, inl, inr, Bool, true, Some, List, [], ◌∷◌, refl, sym, subst}
 use Rattle.std.proofs.lemmas.Bool.{or_left, or_right}
 use Rattle.tpl_model.specs.declared.finals.Final.{Final}
 use Rattle.tpl_model.specs.declared.finals.Final.TheVariants.{RanToCompletion, Canceled, Faulted}
 use Rattle.tpl_model.specs.declared.finals.Finals.{Finals}
-use Rattle.tpl_model.specs.declared.rule_set.RuleSet.TheVariants.{Narrow, Wide}
+use Rattle.tpl_model.specs.declared.rule_set.RuleSet.TheVariants.{WithoutTokens, WithTokens}
 use Rattle.tpl_model.specs.Finals.{has}
 use Rattle.tpl_model.specs.Graph.{TaskGraph}
 use Rattle.tpl_model.specs.declared.event.Event.{Event}
-use Rattle.tpl_model.specs.declared.ids.TaskId.{TaskId}
-use Rattle.tpl_model.specs.declared.claim.Property.{Property}
 use Rattle.tpl_model.specs.Rules.{final, Run}
 use Rattle.tpl_model.specs.Valid.{IsGraph}
 use Rattle.tpl_model.specs.Claims.{Claim}
-use Rattle.tpl_model.specs.Certificate.{Row, row, Assumed, assumed_for, taken, with_input, with_end, Closed, Tree, SplitInput, SplitEnd, Leaf, AcceptsTree, Accepts}
-use Rattle.tpl_model.specs.WiderRules.{WideRow, plain, WideTree, OnInput, OnEnd, OnWinner, WideLeaf, LeastLeaf, as_wide, as_wide_tree, widely_assumed}
-use Rattle.tpl_laws.specs.WideTrees.{WidelyAccepts, all_written, written}
+use Rattle.tpl_model.specs.Certificate.{row, Tree, Accepts, Row, plain, OnInput, OnEnd, OnWinner, RowsLeaf, LeastLeaf}
+use Rattle.tpl_model.specs.TokenRules.{assumed_with_tokens}
+use Rattle.tpl_laws.specs.TokenTrees.{AcceptsWithTokens, all_written, written}
 use Rattle.tpl_laws.specs.LeastRows.{ends_where}
-use Rattle.tpl_laws.specs.Soundness.{HasLeaf, RowsAreTrue, SomeLeafAgrees}
-use Rattle.tpl_laws.specs.WiderSoundness.{HasRows, SomeWideLeafIsTrue}
-use Rattle.tpl_laws.proofs.WideLaw.{plain_wide}
+use Rattle.tpl_laws.specs.SoundnessWithTokens.{HasRows, SomeLeafIsTrue, SomeTokenLeafIsTrue}
 use Rattle.tpl_draw.specs.Endings.{either, tree_ends, ends, IsSomeTaken, EndingsAreTrue}
-
--- rows that say nothing of tokens say the same of their tasks
-pub narrow_row : (rows : List Row) (t : ℕ) → row (plain (as_wide rows)) t ≡ row rows t
-narrow_row rows t = ap (λ z. row z t) (plain_wide rows)
-
--- each leaf of an accepted tree is closed
-leaf_closed : (g : TaskGraph) (p : Property TaskId) (l m : Assumed) (tree : Tree) (rows : List Row) → AcceptsTree g p l tree → HasLeaf l tree m rows → Closed g m rows
-leaf_closed g p l m (SplitInput i a b) rows acc (inl w) = leaf_closed g p (with_input l i true) m a rows acc.1 w
-leaf_closed g p l m (SplitInput i a b) rows acc (inr w) = leaf_closed g p (with_input l i false) m b rows acc.2 w
-leaf_closed g p l m (SplitEnd t a b c) rows acc (inl w) = leaf_closed g p (with_end l t RanToCompletion) m a rows acc.1 w
-leaf_closed g p l m (SplitEnd t a b c) rows acc (inr (inl w)) = leaf_closed g p (with_end l t Canceled) m b rows acc.2 w
-leaf_closed g p l m (SplitEnd t a b c) rows acc (inr (inr w)) = leaf_closed g p (with_end l t Faulted) m c rows acc.3 w
-leaf_closed g p l m (Leaf leaf) rows acc w =
-    subst (λ z. Closed g z rows) w.0 (subst (λ z. Closed g l z) w.1 acc.2)
-
--- the rows of a leaf are those of the same leaf of the tree as one that may speak of tokens
-leaf_rows : (l m : Assumed) (tree : Tree) (rows : List Row) → HasLeaf l tree m rows → HasRows (as_wide_tree tree) (as_wide rows)
-leaf_rows l m (SplitInput i a b) rows (inl w) = inl (leaf_rows (with_input l i true) m a rows w)
-leaf_rows l m (SplitInput i a b) rows (inr w) = inr (leaf_rows (with_input l i false) m b rows w)
-leaf_rows l m (SplitEnd t a b c) rows (inl w) = inl (leaf_rows (with_end l t RanToCompletion) m a rows w)
-leaf_rows l m (SplitEnd t a b c) rows (inr (inl w)) = inr (inl (leaf_rows (with_end l t Canceled) m b rows w))
-leaf_rows l m (SplitEnd t a b c) rows (inr (inr w)) = inr (inr (leaf_rows (with_end l t Faulted) m c rows w))
-leaf_rows l m (Leaf leaf) rows w = ap as_wide w.1
 
 -- a member of one set is one of either
 in_first : (a b : Finals) (f : Final) → has a f ≡ true → has (either a b) f ≡ true
@@ -64,7 +37,7 @@ in_each Canceled = refl
 in_each Faulted = refl
 
 -- what a leaf's row says, its tree says
-rows_in_tree : (tree : WideTree) (rows : List WideRow) (t : ℕ) (f : Final) → HasRows tree rows → has (row (plain rows) t).ends f ≡ true → has (tree_ends tree t) f ≡ true
+rows_in_tree : (tree : Tree) (rows : List Row) (t : ℕ) (f : Final) → HasRows tree rows → has (row (plain rows) t).ends f ≡ true → has (tree_ends tree t) f ≡ true
 rows_in_tree (OnInput i a b) rows t f (inl w) e = in_first (tree_ends a t) (tree_ends b t) f (rows_in_tree a rows t f w e)
 rows_in_tree (OnInput i a b) rows t f (inr w) e = in_second (tree_ends a t) (tree_ends b t) f (rows_in_tree b rows t f w e)
 rows_in_tree (OnEnd s a b c) rows t f (inl w) e =
@@ -77,46 +50,39 @@ rows_in_tree (OnEnd s a b c) rows t f (inr (inr w)) e =
     (in_second (tree_ends b t) (tree_ends c t) f (rows_in_tree c rows t f w e))
 rows_in_tree (OnWinner n x a b) rows t f (inl w) e = in_first (tree_ends a t) (tree_ends b t) f (rows_in_tree a rows t f w e)
 rows_in_tree (OnWinner n x a b) rows t f (inr w) e = in_second (tree_ends a t) (tree_ends b t) f (rows_in_tree b rows t f w e)
-rows_in_tree (WideLeaf leaf) rows t f w e = subst (λ z. has (row (plain z) t).ends f ≡ true) (sym w) e
+rows_in_tree (RowsLeaf leaf) rows t f w e = subst (λ z. has (row (plain z) t).ends f ≡ true) (sym w) e
 rows_in_tree LeastLeaf rows t f w e = in_each f
 
 -- a task ends as the trees say in the runs of which what may be taken as given for one of the claims is true
-abbrev EndsAre : RuleSet → TaskGraph → List Claim → List WideTree → Type 0
+abbrev EndsAre : RuleSet → TaskGraph → List Claim → List Tree → Type 0
 EndsAre rules g claims trees =
     (v : List Bool) (h : List Event) → Run g v h → IsSomeTaken rules g v h claims
     → (t : ℕ) (f : Final) → final g v h t ≡ Some f → has (ends trees t) f ≡ true
 
--- by the narrow rules
-narrow_ends : RowsAreTrue → SomeLeafAgrees → (g : TaskGraph) (claims : List Claim) (trees : List Tree) → IsGraph g → Accepts g claims trees → EndsAre Narrow g claims (map as_wide_tree trees)
-narrow_ends rows_true some_leaf g [] [] valid acc v h run given t f e = absurd given
-narrow_ends rows_true some_leaf g (claim ∷ claims) [] valid acc v h run given t f e = absurd acc
-narrow_ends rows_true some_leaf g [] (tree ∷ trees) valid acc v h run given t f e = absurd acc
-narrow_ends rows_true some_leaf g (claim ∷ claims) (tree ∷ trees) valid acc v h run (inl given) t f e =
-    let w = some_leaf g (taken Narrow g claim) tree v h given in
-    let closed = leaf_closed g claim.body (assumed_for Narrow g claim) w.0 tree w.1 acc.0 w.2 in
-    let in_rows = (rows_true g w.0 w.1 v h valid closed run w.3).0.ends t f e in
-    in_first (tree_ends (as_wide_tree tree) t) (ends (map as_wide_tree trees) t) f
-    (rows_in_tree (as_wide_tree tree) (as_wide w.1) t f (leaf_rows (assumed_for Narrow g claim) w.0 tree w.1 w.2)
-    (subst (λ z. has z.ends f ≡ true) (sym (narrow_row w.1 t)) in_rows))
-narrow_ends rows_true some_leaf g (claim ∷ claims) (tree ∷ trees) valid acc v h run (inr given) t f e =
-    in_second (tree_ends (as_wide_tree tree) t) (ends (map as_wide_tree trees) t) f
-    (narrow_ends rows_true some_leaf g claims trees valid acc.1 v h run given t f e)
-
--- by the wide ones
-wide_ends : SomeWideLeafIsTrue → (g : TaskGraph) (claims : List Claim) (trees : List WideTree) → IsGraph g → WidelyAccepts g claims trees → EndsAre Wide g claims (all_written g claims trees)
-wide_ends some_leaf g [] [] valid acc v h run given t f e = absurd given
-wide_ends some_leaf g (claim ∷ claims) [] valid acc v h run given t f e = absurd acc
-wide_ends some_leaf g [] (tree ∷ trees) valid acc v h run given t f e = absurd acc
-wide_ends some_leaf g (claim ∷ claims) (tree ∷ trees) valid acc v h run (inl given) t f e =
+-- by the rules without tokens
+ends_without_tokens : SomeLeafIsTrue → (g : TaskGraph) (claims : List Claim) (trees : List Tree) → IsGraph g → Accepts g claims trees → EndsAre WithoutTokens g claims trees
+ends_without_tokens some_leaf g [] [] valid acc v h run given t f e = absurd given
+ends_without_tokens some_leaf g (claim ∷ claims) [] valid acc v h run given t f e = absurd acc
+ends_without_tokens some_leaf g [] (tree ∷ trees) valid acc v h run given t f e = absurd acc
+ends_without_tokens some_leaf g (claim ∷ claims) (tree ∷ trees) valid acc v h run (inl given) t f e =
     let w = some_leaf g claim tree v h valid acc.0 run given in
-    let whole = written g claim.body (widely_assumed g claim) tree in
-    in_first (tree_ends whole t) (ends (all_written g claims trees) t) f (rows_in_tree whole w.0 t f w.1 (w.2.ends t f e))
-wide_ends some_leaf g (claim ∷ claims) (tree ∷ trees) valid acc v h run (inr given) t f e =
-    in_second (tree_ends (written g claim.body (widely_assumed g claim) tree) t) (ends (all_written g claims trees) t) f
-    (wide_ends some_leaf g claims trees valid acc.1 v h run given t f e)
+    in_first (tree_ends tree t) (ends trees t) f (rows_in_tree tree w.0 t f w.1 (w.2.ends t f e))
+ends_without_tokens some_leaf g (claim ∷ claims) (tree ∷ trees) valid acc v h run (inr given) t f e =
+    in_second (tree_ends tree t) (ends trees t) f (ends_without_tokens some_leaf g claims trees valid acc.1 v h run given t f e)
 
-pub endings_lem : RowsAreTrue → SomeLeafAgrees → SomeWideLeafIsTrue → EndingsAreTrue
-endings_lem rows_true some_leaf some_wide_leaf Narrow g claims certificate valid acc v h run given t f e =
-    subst (λ z. has (ends z t) f ≡ true) (sym acc.1) (narrow_ends rows_true some_leaf g claims acc.0 valid acc.2 v h run given t f e)
-endings_lem rows_true some_leaf some_wide_leaf Wide g claims certificate valid acc v h run given t f e =
-    wide_ends some_wide_leaf g claims certificate valid acc v h run given t f e
+-- by those with tokens
+token_ends : SomeTokenLeafIsTrue → (g : TaskGraph) (claims : List Claim) (trees : List Tree) → IsGraph g → AcceptsWithTokens g claims trees → EndsAre WithTokens g claims (all_written g claims trees)
+token_ends some_leaf g [] [] valid acc v h run given t f e = absurd given
+token_ends some_leaf g (claim ∷ claims) [] valid acc v h run given t f e = absurd acc
+token_ends some_leaf g [] (tree ∷ trees) valid acc v h run given t f e = absurd acc
+token_ends some_leaf g (claim ∷ claims) (tree ∷ trees) valid acc v h run (inl given) t f e =
+    let w = some_leaf g claim tree v h valid acc.0 run given in
+    let whole = written g claim.body (assumed_with_tokens g claim) tree in
+    in_first (tree_ends whole t) (ends (all_written g claims trees) t) f (rows_in_tree whole w.0 t f w.1 (w.2.ends t f e))
+token_ends some_leaf g (claim ∷ claims) (tree ∷ trees) valid acc v h run (inr given) t f e =
+    in_second (tree_ends (written g claim.body (assumed_with_tokens g claim) tree) t) (ends (all_written g claims trees) t) f
+    (token_ends some_leaf g claims trees valid acc.1 v h run given t f e)
+
+pub endings_lem : SomeLeafIsTrue → SomeTokenLeafIsTrue → EndingsAreTrue
+endings_lem some_leaf some_token_leaf WithoutTokens g claims certificate valid acc v h run given t f e = ends_without_tokens some_leaf g claims certificate valid acc v h run given t f e
+endings_lem some_leaf some_token_leaf WithTokens g claims certificate valid acc v h run given t f e = token_ends some_token_leaf g claims certificate valid acc v h run given t f e

@@ -1,11 +1,16 @@
 //! How the tasks may end by the rows of a certificate.
 
-ghost use Rattle.std.specs.Prelude.{◌≡◌, IfOk, map};
+ghost use Rattle.std.specs.Prelude.{◌≡◌, IfOk, length, All};
 ghost use Rattle.tpl_draw.specs.Prelude.{EndingsAreTrue, either, endings, ends, no_ends, tree_ends};
-ghost use Rattle.tpl_model.specs.Prelude.{as_wide_tree, row};
+ghost use Rattle.tpl_graph.specs.Prelude.{Fits};
+ghost use Rattle.tpl_laws.specs.ByRules.{written_by};
+ghost use Rattle.tpl_laws.specs.Prelude.{AcceptsBy};
+ghost use Rattle.tpl_model.specs.Prelude.{plain, row};
 
+use crate::token_ending::token_endings;
 use std::alloc::{AllocError, Global};
-use tpl_model::Finals;
+use tpl_graph::{Claim, Graph};
+use tpl_model::{Finals, RuleSet};
 use tpl_trees::{Node, Row, Tree};
 
 /// No way to end.
@@ -31,36 +36,40 @@ pub(crate) fn either(one: Finals, other: Finals) -> Finals
 }
 
 /// How a task may end by its row; in no way past the last row.
-fn leaf_ends(rows: &[Row], task: usize) -> Finals
-    ensures { result ≡ (row rows.now task).ends }
+pub(crate) fn leaf_ends(rows: &[Row], task: usize) -> Finals
+    ensures { result ≡ (row (plain rows.now) task).ends }
 {
     if task < rows.len() {
-        rows[task].ends()
+        rows[task].row().ends()
     } else {
         no_ends()
     }
 }
 
-/// How a task may end by the rows of one leaf of the tree or another.
-#[tactic(auto, using(crate::proofs::EndingLemmas::narrow_row))]
+/// How a task may end by the rows of one leaf of the tree or another; a leaf without rows rules nothing out.
 fn tree_ends(tree: &Tree, task: usize) -> Finals
-    ensures { result ≡ tree_ends (as_wide_tree tree.now) task }
+    ensures { result ≡ tree_ends tree.now task }
 {
     match tree.node() {
-        Node::SplitInput(_, on_true, on_false) => {
-            either(tree_ends(on_true, task), tree_ends(on_false, task))
+        Node::SplitInput(_, first, second) | Node::SplitWinner(_, _, first, second) => {
+            either(tree_ends(first, task), tree_ends(second, task))
         }
         Node::SplitEnd(_, ran, canceled, faulted) => {
             let others = either(tree_ends(canceled, task), tree_ends(faulted, task));
             either(tree_ends(ran, task), others)
         }
         Node::Leaf(rows) => leaf_ends(rows, task),
+        Node::Least => Finals {
+            ran: true,
+            canceled: true,
+            faulted: true,
+        },
     }
 }
 
 /// How a task may end by one tree or another.
 fn ends(trees: &[Tree], task: usize) -> Finals
-    ensures { result ≡ ends (map as_wide_tree trees.now) task }
+    ensures { result ≡ ends trees.now task }
 {
     let mut found = no_ends();
     for tree in trees {
@@ -70,8 +79,12 @@ fn ends(trees: &[Tree], task: usize) -> Finals
 }
 
 /// How each of this many tasks may end by the trees of a certificate.
-pub fn endings(alloc: Global, trees: &[Tree], tasks: usize) -> Result<Vec<Finals>, AllocError>
-    ensures { IfOk result (λ found. found.items ≡ endings (map as_wide_tree trees.now) tasks) }
+pub(crate) fn endings(
+    alloc: Global,
+    trees: &[Tree],
+    tasks: usize,
+) -> Result<Vec<Finals>, AllocError>
+    ensures { IfOk result (λ found. found.items ≡ endings trees.now tasks) }
 {
     let mut found = Vec::new(alloc);
     for task in 0..tasks {
@@ -80,12 +93,30 @@ pub fn endings(alloc: Global, trees: &[Tree], tasks: usize) -> Result<Vec<Finals
     Ok(found)
 }
 
+/// How each task may end by the trees of a certificate that the rules accept, with the rows that its leaves leave out.
+pub fn endings_by(
+    alloc: Global,
+    rules: RuleSet,
+    graph: &Graph,
+    claims: &[Claim],
+    trees: &[Tree],
+) -> Result<Vec<Finals>, AllocError>
+    requires claims { All (Fits graph.now.graph) claims.now }
+    requires accepted { AcceptsBy rules graph.now.graph claims.now trees.now }
+    ensures { IfOk result (λ found. found.items ≡ endings
+        (written_by rules graph.now.graph claims.now trees.now) (length graph.now.graph.tasks)) }
+{
+    match rules {
+        RuleSet::WithoutTokens => endings(alloc, trees, graph.len()),
+        RuleSet::WithTokens => token_endings(alloc, graph, claims, trees),
+    }
+}
+
 /// Where a certificate is accepted, a task ends as one of its rows says, in each run of which what one of the claims
 /// gives is true.
 pub fn endings_are_true()
     ensures { EndingsAreTrue }
 {
-    tpl_laws::rows_are_true();
-    tpl_laws::some_leaf_agrees();
-    tpl_laws::some_wide_leaf_is_true();
+    tpl_laws::some_leaf_is_true();
+    tpl_laws::some_token_leaf_is_true();
 }

@@ -22,10 +22,9 @@ mod lines;
 mod marks;
 mod showing;
 mod shown;
-mod wide_ending;
+mod token_ending;
 
 pub use draw::picture;
-pub use ending::{endings, endings_are_true};
+pub use ending::{endings_are_true, endings_by};
 pub use language::Language;
 pub use shown::{Failing, Moment, Shown};
-pub use wide_ending::wide_endings;

@@ -10,11 +10,11 @@ use Rattle.tpl_model.specs.Knowledge.{IsSettled, Knowledge, as_facts, meet, when
 use Rattle.tpl_model.specs.Recursion.{another}
 use Rattle.tpl_model.specs.declared.ids.TaskId.{TaskId}
 use Rattle.tpl_model.specs.declared.claim.Property.{Property}
-use Rattle.tpl_model.specs.Certificate.{row, IsBelow, child, deeper, may_end}
-use Rattle.tpl_model.specs.WiderRules.{WideRow, plain, begins_with, ends_with, asked_of, wide_view, known_at_start, may_run, ByBody, IsWay, WidelyClosed, WidelyProves, WideAssumed, WideTree, OnInput, OnEnd, OnWinner, WideLeaf, LeastLeaf, narrowed, end_split, widely_assumed}
+use Rattle.tpl_model.specs.Certificate.{row, IsBelow, child, deeper, may_end, Row, plain, Tree, OnInput, OnEnd, OnWinner, RowsLeaf, LeastLeaf}
+use Rattle.tpl_model.specs.TokenRules.{begins_with, ends_with, asked_of, token_view, known_at_start, may_run, ByBody, IsWay, ClosedWithTokens, ProvesWithTokens, LeafAssumed, narrowed, end_split, assumed_with_tokens}
 use Rattle.tpl_laws.specs.LeastRows.{least_rows}
-use Rattle.tpl_laws.specs.WideTrees.{AcceptsWideTree, WidelyAccepts}
-use Rattle.tpl_laws.specs.WideVerdict.{WideVerdictIsRight}
+use Rattle.tpl_laws.specs.TokenTrees.{AcceptsTokenTree, AcceptsWithTokens}
+use Rattle.tpl_laws.specs.TokenVerdict.{TokenVerdictIsRight}
 use Rattle.tpl_laws.proofs.Basics.{same_number, final_self}
 use Rattle.tpl_laws.proofs.Settling.{filter_mem}
 use Rattle.tpl_laws.proofs.RowsAreTrue.{one_ends_mem}
@@ -25,11 +25,11 @@ use Rattle.tpl_examples.proofs.Computed.{valid}
 abbrev says : Property TaskId
 says = begins_after 1 4
 
-abbrev assumes : WideAssumed
-assumes = widely_assumed races (claim says)
+abbrev assumes : LeafAssumed
+assumes = assumed_with_tokens races (claim says)
 
 -- the verdict finds no fault
-pub accepted : WideVerdictIsRight → WidelyAccepts races (claim says ∷ []) (races_tree ∷ [])
+pub accepted : TokenVerdictIsRight → AcceptsWithTokens races (claim says ∷ []) (races_tree ∷ [])
 accepted right = (right races (claim says ∷ []) (races_tree ∷ []) (valid races refl)).0 refl
 
 -- how the tasks end where the second wins
@@ -37,7 +37,7 @@ abbrev bound : ℕ → Final
 bound t = if nat_eq t 1 then Faulted else RanToCompletion
 
 -- what is assumed leaves this open, and who wins
-record IsOpen (l : WideAssumed) : Type 0 where
+record IsOpen (l : LeafAssumed) : Type 0 where
   first : l.assumed.left 0 RanToCompletion ≡ true
   second : l.assumed.left 1 Faulted ≡ true
   third : l.assumed.left 2 RanToCompletion ≡ true
@@ -45,7 +45,7 @@ record IsOpen (l : WideAssumed) : Type 0 where
   wins : (n x : ℕ) → l.wins n x ≡ true
 
 -- a split on an end has a branch that does
-end_open : (l : WideAssumed) (t : ℕ) (f : Final) → bound t ≡ f → IsOpen l → IsOpen (end_split l t f)
+end_open : (l : LeafAssumed) (t : ℕ) (f : Final) → bound t ≡ f → IsOpen l → IsOpen (end_split l t f)
 end_open l t f e o = record {
   first = and_from (l.assumed.left 0 RanToCompletion) (not (nat_eq t 0) || is_final f RanToCompletion) o.first (stays 0);
   second = and_from (l.assumed.left 1 Faulted) (not (nat_eq t 1) || is_final f Faulted) o.second (stays 1);
@@ -68,7 +68,7 @@ by_bound t A x y = pick (nat_eq t 1) x y
     pick true x y = y refl
     pick false x y = x refl
 
-narrowed_open : (l : WideAssumed) → IsOpen l → IsOpen (narrowed races l)
+narrowed_open : (l : LeafAssumed) → IsOpen l → IsOpen (narrowed races l)
 narrowed_open l o = record {
   first = and_from (l.assumed.left 0 RanToCompletion) (l.assumed.left 3 Canceled || true) o.first (or_right (l.assumed.left 3 Canceled) true refl);
   second = and_from (l.assumed.left 1 Faulted) (l.assumed.left 3 Canceled || true) o.second (or_right (l.assumed.left 3 Canceled) true refl);
@@ -87,7 +87,7 @@ at_start_known true false k e = refl
 at_start_known false b k e = true_false (sym e)
 
 -- then a closed leaf doesn't prove the claim
-module _ (l : WideAssumed) (rows : List WideRow) (o : IsOpen l) (closed : WidelyClosed races l rows) where
+module _ (l : LeafAssumed) (rows : List Row) (o : IsOpen l) (closed : ClosedWithTokens races l rows) where
   abbrev at_begin : ℕ → Knowledge
   at_begin t = record { requested = asked_of rows t; later = as_facts (asked_of rows t) }
 
@@ -141,25 +141,25 @@ module _ (l : WideAssumed) (rows : List WideRow) (o : IsOpen l) (closed : Widely
 
   child_known : known_at_start races l rows 3 4 ≡ Some (at_begin 3)
   child_known =
-      let view = wide_view races l rows 3 in
+      let view = token_view races l rows 3 in
       at_start_known (view.subject Faulted) (another view Faulted) (at_begin 3) (one_ends_mem (filter (l.wins 2) (0 ∷ 1 ∷ [])) (plain rows) 1 Faulted (may_win 1 refl) second_ends)
 
   child_runs : may_run rows 4 ≡ true
   child_runs = let i : 4 < 5 = omega arith in (closed 4 i).runs 3 (at_begin 3) refl fourth_runs child_known refl
 
-  proves_not : WidelyProves races l rows says → ⊥
+  proves_not : ProvesWithTokens races l rows says → ⊥
   proves_not (inl n) = true_false (sym child_runs ∙ n)
   proves_not (inr m) = let i : 4 < 5 = omega arith in fourth_before ((closed 4 i).begin child_runs (IsSettled 1) m 3 refl)
 
-not_accepted : (l : WideAssumed) (tree : WideTree) → IsOpen l → NoWinners tree → AcceptsWideTree races says l tree → ⊥
+not_accepted : (l : LeafAssumed) (tree : Tree) → IsOpen l → NoWinners tree → AcceptsTokenTree races says l tree → ⊥
 not_accepted l (OnInput i a b) o none acc = let lt : i < 0 = acc.0 in absurd (omega arith)
 not_accepted l (OnEnd t a b c) o none acc =
     by_bound t ⊥
     (λ e. not_accepted (end_split l t RanToCompletion) a (end_open l t RanToCompletion e o) none.0 acc.1)
     (λ e. not_accepted (end_split l t Faulted) c (end_open l t Faulted e o) none.2 acc.3)
 not_accepted l (OnWinner n x a b) o none acc = absurd none
-not_accepted l (WideLeaf rows) o none acc = proves_not (narrowed races l) rows (narrowed_open l o) acc.3.0 acc.3.1
+not_accepted l (RowsLeaf rows) o none acc = proves_not (narrowed races l) rows (narrowed_open l o) acc.3.0 acc.3.1
 not_accepted l LeastLeaf o none acc = proves_not (narrowed races l) (least_rows races (narrowed races l) says) (narrowed_open l o) acc.0 acc.1
 
-pub needed : (tree : WideTree) → NoWinners tree → WidelyAccepts races (claim says ∷ []) (tree ∷ []) → ⊥
+pub needed : (tree : Tree) → NoWinners tree → AcceptsWithTokens races (claim says ∷ []) (tree ∷ []) → ⊥
 needed tree none acc = not_accepted assumes tree (record { first = refl; second = refl; third = refl; given = λ t f. refl; wins = λ n x. refl }) none acc.0

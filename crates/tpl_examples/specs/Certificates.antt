@@ -7,10 +7,10 @@ use Rattle.tpl_model.specs.declared.fault.Rule.TheVariants.{K1, K2, K3, K4, K6}
 use Rattle.tpl_model.specs.declared.fault.CertFault.TheVariants.{Shape, ClaimNot}
 use Rattle.tpl_model.specs.declared.claim.Given.{Given}
 use Rattle.tpl_model.specs.Claims.{Claim}
-use Rattle.tpl_model.specs.Certificate.{Row, Tree, SplitInput, SplitEnd, Leaf}
+use Rattle.tpl_model.specs.Certificate.{PlainRow, Tree, OnInput, OnEnd}
 use Rattle.tpl_laws.specs.Verdict.{verdict}
 use Rattle.tpl_examples.specs.Words.{root, when_all, when_any, with_token, with_options, ran, canceled, faulted, ends_in, begins_after, is_observed, exclude, given_input, given_quiet, returns}
-use Rattle.tpl_examples.specs.CertificateWords.{child_with, continuing, graph_with, nothing, ran_or_canceled, ran_or_faulted, any_end, runs, ends, not_run, one_claim, one_claim_given, not_closed, leaf, throws, observes}
+use Rattle.tpl_examples.specs.CertificateWords.{child_with, continuing, graph_with, nothing, ran_or_canceled, ran_or_faulted, any_end, runs, ends, not_run, one_claim, one_claim_given, not_closed, leaf, throws, observes, one_leaf}
 
 -- a root that returns; no claims about no tasks; a claim without a tree
 abbrev pub one_root : Statements → TaskGraph
@@ -61,9 +61,9 @@ one_of_two = graph_with [] 0 (root (Work 0 true ⨾ Nothing) ∷ continuing 0 re
 abbrev pub excludes : List Claim
 excludes = one_claim (exclude 1 2)
 
-abbrev pub by_end : List Row → Tree
+abbrev pub by_end : List PlainRow → Tree
 by_end if_canceled =
-    SplitEnd 0 (Leaf (ends ran ∷ not_run canceled ∷ ends ran ∷ [])) (Leaf if_canceled) (Leaf (ends faulted ∷ ends ran ∷ not_run canceled ∷ []))
+    OnEnd 0 (one_leaf (ends ran ∷ not_run canceled ∷ ends ran ∷ [])) (one_leaf if_canceled) (one_leaf (ends faulted ∷ ends ran ∷ not_run canceled ∷ []))
 
 abbrev pub ByEnd : Type 0
 ByEnd =
@@ -171,7 +171,7 @@ abbrev pub ByInput : Type 0
 ByInput =
     (verdict on_input ends_ran (leaf (ends ran_or_faulted ∷ [])) ≡ Err (ClaimNot 1 1))
     × (verdict on_input (one_claim_given (given_input 0 true ∷ []) (ends_in 0 ran)) (leaf (ends ran ∷ [])) ≡ Ok tt)
-    × (verdict on_input ends_ran (SplitInput 0 (Leaf (ends ran ∷ [])) (Leaf (ends faulted ∷ [])) ∷ []) ≡ Err (ClaimNot 1 2))
+    × (verdict on_input ends_ran (OnInput 0 (one_leaf (ends ran ∷ [])) (one_leaf (ends faulted ∷ [])) ∷ []) ≡ Err (ClaimNot 1 2))
 
 -- tokens `user` and `timeout`, and one linked to both: where that one is never requested, so are its sources; where a
 -- source isn't, it may be

@@ -10,33 +10,34 @@ use Rattle.tpl_model.specs.declared.fault.CertFault.{CertFault}
 use Rattle.tpl_model.specs.declared.fault.CertFault.TheVariants.{Shape, ClaimNot}
 use Rattle.tpl_model.specs.declared.ids.TaskId.{TaskId}
 use Rattle.tpl_model.specs.declared.claim.Property.{Property}
-use Rattle.tpl_model.specs.WiderRules.{WideRow, plain, as_wide, WideAssumed, narrowed, WideTree, OnInput, OnEnd, OnWinner, WideLeaf, LeastLeaf, end_split, winner_split}
+use Rattle.tpl_model.specs.Certificate.{Row, plain, Tree, OnInput, OnEnd, OnWinner, RowsLeaf, LeastLeaf}
+use Rattle.tpl_model.specs.TokenRules.{LeafAssumed, narrowed, end_split, winner_split}
 use Rattle.tpl_laws.specs.Verdict.{Breaks}
 use Rattle.tpl_laws.specs.LeastRows.{least_rows}
-use Rattle.tpl_laws.specs.WideTrees.{WidelyAccepts}
-use Rattle.tpl_laws.specs.WideVerdict.{wide_verdict}
+use Rattle.tpl_laws.specs.TokenTrees.{AcceptsWithTokens}
+use Rattle.tpl_laws.specs.TokenVerdict.{token_verdict}
 use Rattle.tpl_examples.specs.Words.{root, child, continues, when_all, with_token, with_options, graph, with_tokens, with_inputs, returns, only_on_faulted, only_on_ran_to_completion, ran, canceled, faulted, ends_in, begins_after, is_observed, exclude}
-use Rattle.tpl_examples.specs.CertificateWords.{nothing, ran_or_canceled, ran_or_faulted, runs, behind, ends, not_run, one_claim, throws, observes}
+use Rattle.tpl_examples.specs.CertificateWords.{bare_rows, nothing, ran_or_canceled, ran_or_faulted, runs, behind, ends, not_run, one_claim, throws, observes}
 use Rattle.tpl_examples.specs.TokenRules.{for_claim, fault, plainly, knowing, two_tokens}
 use Rattle.tpl_examples.specs.WinnerRules.{races, read_behind}
 
 -- the rows of a leaf without rows: where it assumes this, where no split is above it, and in the branch of a split on
 -- how t ends, or on whether x wins n
-abbrev pub rows_where : TaskGraph → Property TaskId → WideAssumed → List WideRow
+abbrev pub rows_where : TaskGraph → Property TaskId → LeafAssumed → List Row
 rows_where g says l = least_rows g (narrowed g l) says
 
-abbrev pub rows_of : TaskGraph → Property TaskId → List WideRow
+abbrev pub rows_of : TaskGraph → Property TaskId → List Row
 rows_of g says = rows_where g says (for_claim g [] says)
 
-abbrev pub rows_if_ended : TaskGraph → Property TaskId → ℕ → Final → List WideRow
+abbrev pub rows_if_ended : TaskGraph → Property TaskId → ℕ → Final → List Row
 rows_if_ended g says t f = rows_where g says (end_split (for_claim g [] says) t f)
 
-abbrev pub rows_if_won : TaskGraph → Property TaskId → ℕ → ℕ → Bool → List WideRow
+abbrev pub rows_if_won : TaskGraph → Property TaskId → ℕ → ℕ → Bool → List Row
 rows_if_won g says n x value = rows_where g says (winner_split (for_claim g [] says) n x value)
 
 -- the verdict on a tree for one claim
-abbrev pub judged : TaskGraph → Property TaskId → WideTree → Result (Unit {0}) CertFault
-judged g says tree = wide_verdict g (one_claim says) (tree ∷ [])
+abbrev pub judged : TaskGraph → Property TaskId → Tree → Result (Unit {0}) CertFault
+judged g says tree = token_verdict g (one_claim says) (tree ∷ [])
 
 -- Fetch, a job that may fail, Import where it doesn't, and Report where it does
 abbrev pub fetch : TaskGraph
@@ -70,7 +71,7 @@ RowsAreNarrowed =
     ≡ plainly (ends faulted) ∷ plainly (behind canceled (0 ∷ [])) ∷ plainly (runs nothing (0 ∷ []) [] []) ∷ [])
 
 -- three leaves without rows below a split on how the t-th task ends
-abbrev pub by_end_of : ℕ → WideTree
+abbrev pub by_end_of : ℕ → Tree
 by_end_of t = OnEnd t LeastLeaf LeastLeaf LeastLeaf
 
 -- a split on how Fetch ends is enough, and a leaf with rows may stand beside ones without. No split isn't, nor is one on
@@ -78,7 +79,7 @@ by_end_of t = OnEnd t LeastLeaf LeastLeaf LeastLeaf
 abbrev pub SplitOnEnd : Type 0
 SplitOnEnd =
     (judged fetch not_both (by_end_of 0) ≡ Ok tt)
-    × (judged fetch not_both (OnEnd 0 LeastLeaf (WideLeaf (plainly (ends nothing) ∷ plainly (not_run nothing) ∷ plainly (not_run nothing) ∷ [])) LeastLeaf) ≡ Ok tt)
+    × (judged fetch not_both (OnEnd 0 LeastLeaf (RowsLeaf (plainly (ends nothing) ∷ plainly (not_run nothing) ∷ plainly (not_run nothing) ∷ [])) LeastLeaf) ≡ Ok tt)
     × (judged fetch not_both LeastLeaf ≡ Err (ClaimNot 1 1))
     × (judged fetch not_both (by_end_of 2) ≡ Err (ClaimNot 1 2))
     × (judged fetch not_both (OnEnd 2 LeastLeaf (by_end_of 0) LeastLeaf) ≡ Ok tt)
@@ -86,7 +87,7 @@ SplitOnEnd =
 
 -- the same by the definition: with that split a certificate is accepted, and without one it is not
 abbrev pub EndIsNeeded : Type 0
-EndIsNeeded = WidelyAccepts fetch (one_claim not_both) (by_end_of 0 ∷ []) × (WidelyAccepts fetch (one_claim not_both) (LeastLeaf ∷ []) → ⊥)
+EndIsNeeded = AcceptsWithTokens fetch (one_claim not_both) (by_end_of 0 ∷ []) × (AcceptsWithTokens fetch (one_claim not_both) (LeastLeaf ∷ []) → ⊥)
 
 -- a task that does this and then starts a child, which requests the second token; and a continuation with that token,
 -- eager or not, declared between them
@@ -121,7 +122,7 @@ RowsOfFamilies =
 abbrev pub TokensAreKnown : Type 0
 TokensAreKnown =
     (judged (family always 0) (ends_in 1 canceled) LeastLeaf ≡ Ok tt)
-    × (fault (family always 0) [] (ends_in 1 canceled) (as_wide (plain (rows_of (family always 0) (ends_in 1 canceled)))) ≡ Some (Breaks 1 K1))
+    × (fault (family always 0) [] (ends_in 1 canceled) (bare_rows (plain (rows_of (family always 0) (ends_in 1 canceled)))) ≡ Some (Breaks 1 K1))
     × (judged (family sometimes 0) (ends_in 1 canceled) LeastLeaf ≡ Err (ClaimNot 1 1))
     × (judged (family sometimes 0) (ends_in 1 canceled) (OnInput 0 LeastLeaf LeastLeaf) ≡ Err (ClaimNot 1 2))
     × (judged (family sometimes 0) (ends_in 1 canceled) (OnInput 1 LeastLeaf LeastLeaf) ≡ Err (Shape 1))
@@ -149,8 +150,8 @@ RowsByWinner =
     × (judged races (begins_after 1 4) (OnWinner 3 0 LeastLeaf LeastLeaf) ≡ Err (Shape 1))
 
 -- the chains of these rows
-abbrev pub chains : List WideRow → List (List ℕ)
-chains rows = map (λ (r : WideRow). r.row.chain) rows
+abbrev pub chains : List Row → List (List ℕ)
+chains rows = map (λ (r : Row). r.row.chain) rows
 
 -- a task that throws, one that reads it behind WhenAll, and two that may read it at once
 abbrev pub read_by : Task → Task → Task → TaskGraph

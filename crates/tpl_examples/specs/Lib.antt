@@ -13,7 +13,7 @@ pub mod Journals
 pub mod CertificateWords
 pub mod Certificates
 pub mod RowRules
-pub mod WiderRules
+pub mod BothRules
 pub mod TokenRules
 pub mod WinnerRules
 pub mod LeastRows

@@ -9,10 +9,10 @@ use Rattle.tpl_model.specs.declared.fault.CertFault.{CertFault}
 use Rattle.tpl_model.specs.declared.fault.CertFault.TheVariants.{Shape, ClaimNot}
 use Rattle.tpl_model.specs.declared.claim.Given.{Given}
 use Rattle.tpl_model.specs.Claims.{Claim}
-use Rattle.tpl_model.specs.Certificate.{Row, Tree, SplitInput, SplitEnd, Leaf}
+use Rattle.tpl_model.specs.Certificate.{PlainRow, Tree, OnInput, OnEnd}
 use Rattle.tpl_laws.specs.Verdict.{verdict}
 use Rattle.tpl_examples.specs.Words.{root, when_all, when_any, with_token, ran, canceled, faulted, ends_in, begins_after, never_begins, is_observed, exclude, given_input, given_quiet, returns}
-use Rattle.tpl_examples.specs.CertificateWords.{child_with, continuing, graph_with, nothing, ran_or_canceled, ran_or_faulted, any_end, runs, ends, behind, not_run, one_claim, one_claim_given, not_closed, leaf, throws, observes, stuck}
+use Rattle.tpl_examples.specs.CertificateWords.{child_with, continuing, graph_with, nothing, ran_or_canceled, ran_or_faulted, any_end, runs, ends, behind, not_run, one_claim, one_claim_given, not_closed, leaf, throws, observes, stuck, one_leaf}
 
 -- a claim that each leaf proves, for certificates about the rules alone
 abbrev pub true_claim : List Claim
@@ -22,10 +22,10 @@ abbrev pub true_given : List Given → List Claim
 true_given facts = one_claim_given facts (ends_in 0 any_end)
 
 -- the verdict on one leaf for a graph
-abbrev pub said : TaskGraph → List Row → Result (Unit {0}) CertFault
+abbrev pub said : TaskGraph → List PlainRow → Result (Unit {0}) CertFault
 said g rows = verdict g true_claim (leaf rows)
 
-abbrev pub said_given : List Given → TaskGraph → List Row → Result (Unit {0}) CertFault
+abbrev pub said_given : List Given → TaskGraph → List PlainRow → Result (Unit {0}) CertFault
 said_given facts g rows = verdict g (true_given facts) (leaf rows)
 
 -- a graph of these tasks, without tokens or inputs; with one token; with one input
@@ -39,10 +39,10 @@ abbrev pub with_one_input : List Task → TaskGraph
 with_one_input tasks = graph_with [] 1 tasks
 
 -- a row that runs and has these tasks before it, and one that has them past it
-abbrev pub ran_before : List ℕ → Row
+abbrev pub ran_before : List ℕ → PlainRow
 ran_before tasks = runs ran tasks [] []
 
-abbrev pub ran_past : List ℕ → Row
+abbrev pub ran_past : List ℕ → PlainRow
 ran_past tasks = runs ran [] tasks []
 
 -- a root runs; so does a child whose parent may start it, and no other
@@ -188,14 +188,14 @@ PastContinuation =
 -- an eager continuation keeps its antecedent past it on the branches on which it isn't canceled
 abbrev pub PastWhereNotCanceled : Type 0
 PastWhereNotCanceled =
-    (verdict (canceled_before 0) true_claim (SplitEnd 1 (Leaf (ends ran ∷ ran_past (0 ∷ []) ∷ [])) (Leaf (ends ran ∷ ends canceled ∷ [])) (Leaf (ends ran ∷ ends nothing ∷ [])) ∷ []) ≡ Ok tt)
-    × (verdict (canceled_before 0) true_claim (SplitEnd 1 (Leaf (ends ran ∷ ends ran ∷ [])) (Leaf (ends ran ∷ runs canceled [] (0 ∷ []) [] ∷ [])) (Leaf (ends ran ∷ ends nothing ∷ [])) ∷ []) ≡ Err (not_closed 1 2 1 K4))
+    (verdict (canceled_before 0) true_claim (OnEnd 1 (one_leaf (ends ran ∷ ran_past (0 ∷ []) ∷ [])) (one_leaf (ends ran ∷ ends canceled ∷ [])) (one_leaf (ends ran ∷ ends nothing ∷ [])) ∷ []) ≡ Ok tt)
+    × (verdict (canceled_before 0) true_claim (OnEnd 1 (one_leaf (ends ran ∷ ends ran ∷ [])) (one_leaf (ends ran ∷ runs canceled [] (0 ∷ []) [] ∷ [])) (one_leaf (ends ran ∷ ends nothing ∷ [])) ∷ []) ≡ Err (not_closed 1 2 1 K4))
 
 -- past WhenAll is what is past some task of its list, past WhenAny only what is past each
 abbrev pub two_after_one : (List ℕ → Task) → TaskGraph
 two_after_one combinator = plain (root returns ∷ continuing 0 returns 0 ∷ continuing 0 returns 0 ∷ combinator (1 ∷ 2 ∷ []) ∷ [])
 
-abbrev pub past_both : List ℕ → List Row
+abbrev pub past_both : List ℕ → List PlainRow
 past_both tasks = ends ran ∷ ran_past (0 ∷ []) ∷ ran_past (0 ∷ []) ∷ behind ran tasks ∷ []
 
 abbrev pub PastCombinator : Type 0
@@ -208,7 +208,7 @@ PastCombinator =
 
 -- a chain goes from a task to the parent of which it is an attached child, or to a WhenAll task of it, and ends at a
 -- continuation
-abbrev pub read_through_all : ℕ → List ℕ → List Row
+abbrev pub read_through_all : ℕ → List ℕ → List PlainRow
 read_through_all options chain = runs faulted [] [] chain ∷ not_run faulted ∷ ends ran ∷ []
 
 abbrev pub read_through_child : ℕ → TaskGraph
@@ -277,7 +277,7 @@ abbrev pub one : TaskGraph
 one = plain (root returns ∷ [])
 
 abbrev pub right_leaf : Tree
-right_leaf = Leaf (ends ran ∷ [])
+right_leaf = one_leaf (ends ran ∷ [])
 
 abbrev pub Shapes : Type 0
 Shapes =
@@ -286,8 +286,8 @@ Shapes =
     × (said one (runs ran [] [] (1 ∷ []) ∷ []) ≡ Err (Shape 1))
     × (said one [] ≡ Err (Shape 1))
     × (said one (ends ran ∷ ends ran ∷ []) ≡ Err (Shape 1))
-    × (verdict one true_claim (SplitInput 0 right_leaf right_leaf ∷ []) ≡ Err (Shape 1))
-    × (verdict one true_claim (SplitEnd 1 right_leaf right_leaf right_leaf ∷ []) ≡ Err (Shape 1))
+    × (verdict one true_claim (OnInput 0 right_leaf right_leaf ∷ []) ≡ Err (Shape 1))
+    × (verdict one true_claim (OnEnd 1 right_leaf right_leaf right_leaf ∷ []) ≡ Err (Shape 1))
     × (verdict one true_claim (right_leaf ∷ right_leaf ∷ []) ≡ Err (Shape 2))
     × (verdict one (record { given = []; body = ends_in 0 faulted } ∷ record { given = []; body = ends_in 0 ran } ∷ []) (right_leaf ∷ []) ≡ Err (Shape 2))
     × (verdict one (record { given = []; body = ends_in 0 ran } ∷ record { given = []; body = ends_in 0 faulted } ∷ []) (right_leaf ∷ right_leaf ∷ []) ≡ Err (ClaimNot 2 1))
@@ -301,10 +301,10 @@ job = plain (root (Work 0 true ⨾ Nothing) ∷ [])
 
 abbrev pub Assumptions : Type 0
 Assumptions =
-    (verdict by_input (true_given (given_input 0 true ∷ [])) (SplitInput 0 (Leaf (ends ran ∷ [])) (Leaf (ends nothing ∷ [])) ∷ []) ≡ Ok tt)
-    × (verdict by_input (true_given (given_input 0 false ∷ [])) (SplitInput 0 (Leaf (ends ran ∷ [])) (Leaf (ends nothing ∷ [])) ∷ []) ≡ Err (not_closed 1 2 0 K2))
-    × (verdict job true_claim (SplitEnd 0 (SplitEnd 0 (Leaf (ends ran ∷ [])) (Leaf (ends nothing ∷ [])) (Leaf (ends nothing ∷ []))) (Leaf (ends nothing ∷ [])) (Leaf (ends faulted ∷ [])) ∷ []) ≡ Ok tt)
-    × (verdict job true_claim (SplitEnd 0 (Leaf (ends nothing ∷ [])) (Leaf (ends nothing ∷ [])) (Leaf (ends faulted ∷ [])) ∷ []) ≡ Err (not_closed 1 1 0 K2))
+    (verdict by_input (true_given (given_input 0 true ∷ [])) (OnInput 0 (one_leaf (ends ran ∷ [])) (one_leaf (ends nothing ∷ [])) ∷ []) ≡ Ok tt)
+    × (verdict by_input (true_given (given_input 0 false ∷ [])) (OnInput 0 (one_leaf (ends ran ∷ [])) (one_leaf (ends nothing ∷ [])) ∷ []) ≡ Err (not_closed 1 2 0 K2))
+    × (verdict job true_claim (OnEnd 0 (OnEnd 0 (one_leaf (ends ran ∷ [])) (one_leaf (ends nothing ∷ [])) (one_leaf (ends nothing ∷ []))) (one_leaf (ends nothing ∷ [])) (one_leaf (ends faulted ∷ [])) ∷ []) ≡ Ok tt)
+    × (verdict job true_claim (OnEnd 0 (one_leaf (ends nothing ∷ [])) (one_leaf (ends nothing ∷ [])) (one_leaf (ends faulted ∷ [])) ∷ []) ≡ Err (not_closed 1 1 0 K2))
 
 -- how the subject of a continuation may have ended: as its antecedent may and the options allow; behind WhenAny as any
 -- of its tasks may
@@ -314,7 +314,7 @@ asks = When Faulted throws returns ⨾ Nothing
 abbrev pub behind_any : ℕ → TaskGraph
 behind_any options = plain (root returns ∷ root throws ∷ when_any (0 ∷ 1 ∷ []) ∷ continuing 2 asks options ∷ [])
 
-abbrev pub behind_any_rows : Finals → List Row
+abbrev pub behind_any_rows : Finals → List PlainRow
 behind_any_rows reader = ends ran ∷ ends faulted ∷ not_run ran ∷ ends reader ∷ []
 
 abbrev pub Subjects : Type 0

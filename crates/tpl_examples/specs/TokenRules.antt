@@ -10,30 +10,30 @@ use Rattle.tpl_model.specs.declared.fault.Rule.TheVariants.{K1, K2, K3, K4, K5}
 use Rattle.tpl_model.specs.declared.claim.Given.{Given}
 use Rattle.tpl_model.specs.declared.ids.TaskId.{TaskId}
 use Rattle.tpl_model.specs.declared.claim.Property.{Property}
-use Rattle.tpl_model.specs.Certificate.{Row}
-use Rattle.tpl_model.specs.WiderRules.{WideRow, WideAssumed, widely_assumed, narrowed, end_split}
+use Rattle.tpl_model.specs.Certificate.{PlainRow, Row}
+use Rattle.tpl_model.specs.TokenRules.{LeafAssumed, assumed_with_tokens, narrowed, end_split}
 use Rattle.tpl_laws.specs.Verdict.{LeafFault, Breaks, ProvesNot}
-use Rattle.tpl_laws.specs.WiderTests.{wide_leaf_fault}
+use Rattle.tpl_laws.specs.TokenTests.{token_leaf_fault}
 use Rattle.tpl_examples.specs.Words.{root, child, detached_child, continues, when_all, when_any, with_token, with_options, graph, with_tokens, returns, only_on_faulted, ran, canceled, faulted, ends_in, is_observed, never_begins, given_quiet, given_end}
 use Rattle.tpl_examples.specs.CertificateWords.{nothing, ran_or_canceled, ran_or_faulted, ends, behind, not_run, throws, stuck}
 
 -- what a leaf assumes for a claim
-abbrev pub for_claim : TaskGraph → List Given → Property TaskId → WideAssumed
-for_claim g facts says = widely_assumed g (record { given = facts; body = says })
+abbrev pub for_claim : TaskGraph → List Given → Property TaskId → LeafAssumed
+for_claim g facts says = assumed_with_tokens g (record { given = facts; body = says })
 
 -- the fault of a leaf with these rows, if it has one
-abbrev pub fault : TaskGraph → List Given → Property TaskId → List WideRow → Option LeafFault
-fault g facts says rows = wide_leaf_fault g says (for_claim g facts says) rows
+abbrev pub fault : TaskGraph → List Given → Property TaskId → List Row → Option LeafFault
+fault g facts says rows = token_leaf_fault g says (for_claim g facts says) rows
 
 -- the same in the branch of a split on how t ends, with what the splits left narrowed
-abbrev pub in_branch : TaskGraph → List Given → Property TaskId → ℕ → Final → List WideRow → Option LeafFault
-in_branch g facts says t f rows = wide_leaf_fault g says (narrowed g (end_split (for_claim g facts says) t f)) rows
+abbrev pub in_branch : TaskGraph → List Given → Property TaskId → ℕ → Final → List Row → Option LeafFault
+in_branch g facts says t f rows = token_leaf_fault g says (narrowed g (end_split (for_claim g facts says) t f)) rows
 
 -- a row without tokens, and one with those that are requested at its begin and at its end
-abbrev pub plainly : Row → WideRow
+abbrev pub plainly : PlainRow → Row
 plainly r = record { row = r; asked = []; asks = [] }
 
-abbrev pub knowing : Row → List ℕ → List ℕ → WideRow
+abbrev pub knowing : PlainRow → List ℕ → List ℕ → Row
 knowing r asked asks = record { row = r; asked = asked; asks = asks }
 
 -- two tokens, and a second one that is linked to the first
@@ -47,7 +47,7 @@ linked_tokens = Plain ∷ Linked (0 ∷ []) ∷ []
 abbrev pub asks_then : Statements → TaskGraph
 asks_then body = with_tokens two_tokens (graph (root body ∷ with_token 0 (continues 0 returns) ∷ []))
 
-abbrev pub asks_rows : List ℕ → List WideRow
+abbrev pub asks_rows : List ℕ → List Row
 asks_rows asks = knowing (ends ran) [] asks ∷ plainly (not_run canceled) ∷ []
 
 abbrev pub TokenIsAsked : Type 0
@@ -107,7 +107,7 @@ ChildBurdens =
 abbrev pub starts_two : TaskGraph
 starts_two = with_tokens two_tokens (graph (root (Start 1 ⨾ Start 2 ⨾ Nothing) ∷ child stuck ∷ child returns ∷ []))
 
-abbrev pub starts_rows : Finals → Row → List WideRow
+abbrev pub starts_rows : Finals → PlainRow → List Row
 starts_rows first third = plainly (ends first) ∷ plainly (ends nothing) ∷ plainly third ∷ []
 
 abbrev pub ChildIsStuck : Type 0
@@ -120,7 +120,7 @@ ChildIsStuck =
 abbrev pub child_asks : Statements → TaskGraph
 child_asks rest = with_tokens two_tokens (graph (root (Start 1 ⨾ rest) ∷ child (Cancel 0 ⨾ Nothing) ∷ with_token 0 (continues 0 returns) ∷ []))
 
-abbrev pub child_rows : Finals → List WideRow
+abbrev pub child_rows : Finals → List Row
 child_rows first = knowing (ends first) [] (0 ∷ []) ∷ knowing (ends ran) [] (0 ∷ []) ∷ plainly (not_run canceled) ∷ []
 
 abbrev pub ChildAsks : Type 0
@@ -143,7 +143,7 @@ DroppedChild =
 abbrev pub only_canceled : ℕ → TaskGraph
 only_canceled word = with_tokens two_tokens (graph (root returns ∷ with_options word (with_token 0 (continues 0 returns)) ∷ []))
 
-abbrev pub never_runs : List ℕ → List ℕ → List WideRow
+abbrev pub never_runs : List ℕ → List ℕ → List Row
 never_runs past asks = plainly (ends ran) ∷ knowing (behind canceled past) [] asks ∷ []
 
 abbrev pub DroppedEarlyOrNot : Type 0
@@ -158,7 +158,7 @@ DroppedEarlyOrNot =
 abbrev pub of_two : TaskGraph
 of_two = with_tokens two_tokens (graph (root (Cancel 0 ⨾ Nothing) ∷ root returns ∷ when_all (0 ∷ 1 ∷ []) ∷ when_any (0 ∷ 1 ∷ []) ∷ []))
 
-abbrev pub of_two_rows : List ℕ → List ℕ → List WideRow
+abbrev pub of_two_rows : List ℕ → List ℕ → List Row
 of_two_rows all any = knowing (ends ran) [] (0 ∷ []) ∷ plainly (ends ran) ∷ knowing (not_run ran) [] all ∷ knowing (not_run ran) [] any ∷ []
 
 abbrev pub OfArguments : Type 0
@@ -171,7 +171,7 @@ OfArguments =
 abbrev pub handled : TaskGraph
 handled = graph (root (Work 7 true ⨾ Nothing) ∷ with_options only_on_faulted (continues 0 returns) ∷ [])
 
-abbrev pub handled_rows : Finals → List WideRow
+abbrev pub handled_rows : Finals → List Row
 handled_rows first = plainly (ends first) ∷ plainly (ends ran) ∷ []
 
 -- where the handler ran the job had failed; where it was canceled nothing follows, nor from an end that is given
@@ -186,7 +186,7 @@ CutBack =
 abbrev pub two_jobs : TaskGraph
 two_jobs = graph (root (Work 7 true ⨾ Nothing) ∷ root (Work 8 true ⨾ Nothing) ∷ when_all (0 ∷ 1 ∷ []) ∷ root (Work 9 true ⨾ Nothing) ∷ [])
 
-abbrev pub two_jobs_rows : Finals → Finals → Finals → List WideRow
+abbrev pub two_jobs_rows : Finals → Finals → Finals → List Row
 two_jobs_rows first both last = plainly (ends first) ∷ plainly (ends first) ∷ plainly (not_run both) ∷ plainly (ends last) ∷ []
 
 abbrev pub CutBackOfAll : Type 0

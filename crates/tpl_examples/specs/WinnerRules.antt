@@ -10,18 +10,18 @@ use Rattle.tpl_model.specs.declared.fault.Rule.TheVariants.{K1, K2, K5, K6}
 use Rattle.tpl_model.specs.declared.claim.Given.{Given}
 use Rattle.tpl_model.specs.declared.ids.TaskId.{TaskId}
 use Rattle.tpl_model.specs.declared.claim.Property.{Property}
-use Rattle.tpl_model.specs.Certificate.{Row}
-use Rattle.tpl_model.specs.WiderRules.{WideRow, WideTree, OnInput, OnEnd, OnWinner, WideLeaf, LeastLeaf, winner_split}
-use Rattle.tpl_laws.specs.WideTrees.{WidelyAccepts}
+use Rattle.tpl_model.specs.Certificate.{PlainRow, Row, Tree, OnInput, OnEnd, OnWinner, RowsLeaf, LeastLeaf}
+use Rattle.tpl_model.specs.TokenRules.{winner_split}
+use Rattle.tpl_laws.specs.TokenTrees.{AcceptsWithTokens}
 use Rattle.tpl_laws.specs.Verdict.{LeafFault, Breaks, ProvesNot}
-use Rattle.tpl_laws.specs.WiderTests.{wide_leaf_fault}
+use Rattle.tpl_laws.specs.TokenTests.{token_leaf_fault}
 use Rattle.tpl_examples.specs.Words.{root, child, continues, when_all, when_any, with_token, with_options, graph, with_tokens, returns, only_on_faulted, ran, faulted, ends_in, begins_after, is_observed, given_quiet, claim}
 use Rattle.tpl_examples.specs.CertificateWords.{nothing, runs, ends, behind, not_run, throws, observes, stuck}
 use Rattle.tpl_examples.specs.TokenRules.{for_claim, fault, plainly}
 
 -- the fault of a leaf on the branch of a split on whether x wins n, if it has one
-abbrev pub won : TaskGraph → List Given → Property TaskId → ℕ → ℕ → Bool → List WideRow → Option LeafFault
-won g facts says n x value rows = wide_leaf_fault g says (winner_split (for_claim g facts says) n x value) rows
+abbrev pub won : TaskGraph → List Given → Property TaskId → ℕ → ℕ → Bool → List Row → Option LeafFault
+won g facts says n x value rows = token_leaf_fault g says (winner_split (for_claim g facts says) n x value) rows
 
 -- one that returns races with one that throws, and where the second wins a child is started
 abbrev pub races : TaskGraph
@@ -29,7 +29,7 @@ races =
     graph (root returns ∷ root throws ∷ when_any (0 ∷ 1 ∷ []) ∷ continues 2 (When Faulted (Start 4 ⨾ Nothing) Nothing ⨾ Nothing) ∷ child returns ∷ [])
 
 -- the child doesn't begin, or begins when the one that throws is settled, or begins
-abbrev pub races_rows : Row → List ℕ → List WideRow
+abbrev pub races_rows : PlainRow → List ℕ → List Row
 races_rows last settled =
     plainly (ends ran)
     ∷ plainly (ends faulted)
@@ -51,27 +51,27 @@ SplitOnWinner =
     × (won races [] (begins_after 1 4) 2 0 true (races_rows (runs ran (1 ∷ []) [] []) (1 ∷ [])) ≡ Some (Breaks 2 K5))
 
 -- the certificate, and one that has no split on a winner
-abbrev pub races_tree : WideTree
-races_tree = OnWinner 2 0 (WideLeaf (races_rows (not_run nothing) [])) (WideLeaf (races_rows (runs ran (1 ∷ []) [] []) (1 ∷ [])))
+abbrev pub races_tree : Tree
+races_tree = OnWinner 2 0 (RowsLeaf (races_rows (not_run nothing) [])) (RowsLeaf (races_rows (runs ran (1 ∷ []) [] []) (1 ∷ [])))
 
-abbrev pub NoWinners : WideTree → Type 0
+abbrev pub NoWinners : Tree → Type 0
 NoWinners (OnInput i on_true on_false) = NoWinners on_true × NoWinners on_false
 NoWinners (OnEnd t ran canceled faulted) = NoWinners ran × NoWinners canceled × NoWinners faulted
 NoWinners (OnWinner n x on_yes on_no) = ⊥
-NoWinners (WideLeaf rows) = Unit {0}
+NoWinners (RowsLeaf rows) = Unit {0}
 NoWinners LeastLeaf = Unit {0}
 
 -- the first is accepted, and none of the others
 abbrev pub SplitIsNeeded : Type 0
 SplitIsNeeded =
-    WidelyAccepts races (claim (begins_after 1 4) ∷ []) (races_tree ∷ [])
-    × ((tree : WideTree) → NoWinners tree → WidelyAccepts races (claim (begins_after 1 4) ∷ []) (tree ∷ []) → ⊥)
+    AcceptsWithTokens races (claim (begins_after 1 4) ∷ []) (races_tree ∷ [])
+    × ((tree : Tree) → NoWinners tree → AcceptsWithTokens races (claim (begins_after 1 4) ∷ []) (tree ∷ []) → ⊥)
 
 -- the body behind a WhenAny task reads how its winner ended, and not how the others did
 abbrev pub reads_end : TaskGraph
 reads_end = graph (root returns ∷ root throws ∷ when_any (0 ∷ 1 ∷ []) ∷ continues 2 (When Faulted throws returns ⨾ Nothing) ∷ [])
 
-abbrev pub reads_end_rows : Finals → List WideRow
+abbrev pub reads_end_rows : Finals → List Row
 reads_end_rows last = plainly (ends ran) ∷ plainly (ends faulted) ∷ plainly (not_run ran) ∷ plainly (ends last) ∷ []
 
 abbrev pub WinnerIsRead : Type 0
@@ -85,7 +85,7 @@ WinnerIsRead =
 abbrev pub one_is_stuck : TaskGraph
 one_is_stuck = with_tokens (Plain ∷ []) (graph (root stuck ∷ root returns ∷ when_any (0 ∷ 1 ∷ []) ∷ []))
 
-abbrev pub stuck_rows : List WideRow
+abbrev pub stuck_rows : List Row
 stuck_rows = plainly (ends nothing) ∷ plainly (ends ran) ∷ plainly (not_run nothing) ∷ []
 
 abbrev pub StuckWinner : Type 0
@@ -100,7 +100,7 @@ abbrev pub three_race : TaskGraph
 three_race =
     graph (root returns ∷ root returns ∷ root returns ∷ when_any (0 ∷ 1 ∷ 2 ∷ []) ∷ continues 3 returns ∷ when_any (0 ∷ 1 ∷ 2 ∷ []) ∷ [])
 
-abbrev pub three_rows : List WideRow
+abbrev pub three_rows : List Row
 three_rows =
     plainly (ends ran)
     ∷ plainly (ends ran)
@@ -113,7 +113,7 @@ three_rows =
 -- the fault where neither of two splits has the winner
 abbrev pub neither : ℕ → ℕ → ℕ → ℕ → Option LeafFault
 neither n x m y =
-    wide_leaf_fault three_race (begins_after 2 4) (winner_split (winner_split (for_claim three_race [] (begins_after 2 4)) n x false) m y false) three_rows
+    token_leaf_fault three_race (begins_after 2 4) (winner_split (winner_split (for_claim three_race [] (begins_after 2 4)) n x false) m y false) three_rows
 
 abbrev pub SplitsAreIntersected : Type 0
 SplitsAreIntersected =
@@ -128,7 +128,7 @@ abbrev pub read_behind : Task → TaskGraph
 read_behind reader =
     with_tokens (Plain ∷ []) (graph (root throws ∷ root returns ∷ when_all (0 ∷ []) ∷ when_any (2 ∷ 1 ∷ []) ∷ reader ∷ []))
 
-abbrev pub read_rows : List ℕ → List WideRow
+abbrev pub read_rows : List ℕ → List Row
 read_rows chain =
     plainly (runs faulted [] [] chain) ∷ plainly (ends ran) ∷ plainly (not_run faulted) ∷ plainly (not_run ran) ∷ plainly (ends ran) ∷ []
 

@@ -21,7 +21,7 @@ pub fn split_on_end()
 pub fn end_is_needed()
     ensures { EndIsNeeded }
 {
-    tpl_laws::wide_verdict_is_right();
+    tpl_laws::token_verdict_is_right();
 }
 
 /// The rows of a parent and its child are made before that of a continuation which is declared between them.

@@ -11,6 +11,7 @@
 #![tactic(auto, using(crate::proofs::Computed::valid, crate::proofs::Computed::invalid, crate::proofs::Computed::story))]
 
 pub mod bodies;
+pub mod both_rules;
 pub mod cancellation;
 pub mod certificates;
 pub mod children;
@@ -24,5 +25,4 @@ pub mod many_tasks;
 pub mod row_rules;
 pub mod token_rules;
 pub mod valid_graphs;
-pub mod wider_rules;
 pub mod winner_rules;

@@ -11,7 +11,7 @@ pub fn split_on_winner()
 pub fn split_is_needed()
     ensures { SplitIsNeeded }
 {
-    tpl_laws::wide_verdict_is_right();
+    tpl_laws::token_verdict_is_right();
 }
 
 /// A body behind WhenAny reads how an argument ended that may win.

@@ -7,7 +7,7 @@ use Rattle.tpl_model.specs.Members.{mem}
 use Rattle.tpl_model.specs.Facts.{Ending, final_in, all_final, worse}
 use Rattle.tpl_model.specs.Rules.{all_ended}
 use Rattle.tpl_laws.proofs.Basics.{mem_here}
-use Rattle.tpl_model.specs.Certificate.{Row, row, AllMayEnd, may_end}
+use Rattle.tpl_model.specs.Certificate.{PlainRow, row, AllMayEnd, may_end}
 use Rattle.std.proofs.lemmas.Bool.{and_parts, or_left, or_right}
 use Rattle.tpl_model.proofs.MemberLemmas.{mem_split, mem_there}
 use Rattle.tpl_model.proofs.Truths.{true_false}
@@ -49,7 +49,7 @@ all_is (y ∷ args) en e =
     let o = end_of (en y) both.0 in
     subst (λ z. AllIs (y ∷ args) en (worse z (all_final args en))) (sym o.1) (all_step y args en o.0 (all_final args en) o.1 (all_is args en both.1))
 
-pub all_may : (rows : List Row) (args : List ℕ) (en : ℕ → Option Ending) (f : Final) → all_ended args en ≡ true → ((x : ℕ) (e : Final) → final_in (en x) ≡ Some e → has (row rows x).ends e ≡ true) → AllIs args en f → AllMayEnd rows args f
+pub all_may : (rows : List PlainRow) (args : List ℕ) (en : ℕ → Option Ending) (f : Final) → all_ended args en ≡ true → ((x : ℕ) (e : Final) → final_in (en x) ≡ Some e → has (row rows x).ends e ≡ true) → AllIs args en f → AllMayEnd rows args f
 all_may rows args en RanToCompletion a ends w = λ x m. ends x RanToCompletion (w x m)
 all_may rows args en Canceled a ends w =
     ((λ x m. let q = w.0 x m in (q.0, q.1, ends x q.0 q.2)), (w.1.0, w.1.1, ends w.1.0 Canceled w.1.2))
@@ -57,7 +57,7 @@ all_may rows args en Faulted a ends w =
     ((λ x m. let q = end_of (en x) (all_ended_mem args en x a m) in (q.0, ends x q.0 q.1)), (w.0, w.1, ends w.0 Faulted w.2))
 
 -- a task whose row has an end may end
-pub may_end_so : (rows : List Row) (t : ℕ) (f : Final) → has (row rows t).ends f ≡ true → may_end rows t ≡ true
+pub may_end_so : (rows : List PlainRow) (t : ℕ) (f : Final) → has (row rows t).ends f ≡ true → may_end rows t ≡ true
 may_end_so rows t RanToCompletion e = or_left (has (row rows t).ends RanToCompletion) (has (row rows t).ends Canceled || has (row rows t).ends Faulted) e
 may_end_so rows t Canceled e =
     or_right (has (row rows t).ends RanToCompletion) (has (row rows t).ends Canceled || has (row rows t).ends Faulted)

@@ -12,7 +12,7 @@ use Rattle.tpl_model.specs.Rules.{final, label, seen, Run, Complete, Settled}
 use Rattle.tpl_model.specs.declared.ids.TaskId.{TaskId}
 use Rattle.tpl_model.specs.declared.claim.Property.{Property}
 use Rattle.tpl_model.specs.declared.claim.Property.TheVariants.{Final as EndsIn, After, Observed, Never, Excludes, Runs}
-use Rattle.tpl_model.specs.Certificate.{Row, row, Assumed, view, NoneComplete, begins_itself, Proves}
+use Rattle.tpl_model.specs.Certificate.{PlainRow, row, Assumed, view, NoneComplete, begins_itself, Proves}
 use Rattle.tpl_model.specs.Claims.{IsGiven, SettledAtBegin, HoldsOf}
 use Rattle.tpl_model.specs.declared.finals.Final.TheVariants.{Canceled, Faulted}
 use Rattle.tpl_model.specs.Finals.{has}
@@ -35,7 +35,7 @@ use Rattle.tpl_laws.proofs.RulesDecided.{throws_it, none_decided, none_complete_
 use Rattle.tpl_laws.proofs.FailingLemmas.{reached, is_reached, begun_from, stays_complete_lem, label_stays, seen_stays, begun_stays}
 
 module _ (paths : PathLaws) where
-  pub proves_lem : (g : TaskGraph) (l : Assumed) (rows : List Row) (p : Property TaskId) → Decides (proves g l rows p) (Proves g l rows p)
+  pub proves_lem : (g : TaskGraph) (l : Assumed) (rows : List PlainRow) (p : Property TaskId) → Decides (proves g l rows p) (Proves g l rows p)
   proves_lem g l rows (EndsIn t fs) =
       at_each_end (λ f. has (row rows t.0).ends f ≡ true → has fs f ≡ true) (λ f. implies (has (row rows t.0).ends f) (has fs f))
       (λ f. only_if (has (row rows t.0).ends f ≡ true) (has fs f ≡ true) (has (row rows t.0).ends f) (has fs f) (itself (has (row rows t.0).ends f)) (itself (has fs f)))

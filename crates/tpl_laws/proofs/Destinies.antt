@@ -16,14 +16,14 @@ use Rattle.tpl_model.specs.Facts.{Ending, ending, ended_at_once, final_in, all_f
 use Rattle.tpl_model.specs.Rules.{final, Allows, Run, can_settle, all_ended}
 use Rattle.tpl_model.specs.Valid.{IsGraph, ArePlaced, IsPlaced}
 use Rattle.tpl_model.specs.Certificate.{end_left}
-use Rattle.tpl_model.specs.WiderRules.{WideAssumed, WideAgrees, keeps, narrowed_by, narrowed_from, narrowed}
+use Rattle.tpl_model.specs.TokenRules.{LeafAssumed, LeafAgrees, keeps, narrowed_by, narrowed_from, narrowed}
 use Rattle.tpl_laws.proofs.Basics.{some_none, same_number, mem_here}
 use Rattle.tpl_laws.proofs.Kept.{after, ending_new, final_kept, final_of}
 use Rattle.tpl_laws.proofs.Ready.{EndedSo, Ready, begun_ready, IsBody, begun_body, drop_body}
 use Rattle.tpl_laws.proofs.Settling.{other_task}
 use Rattle.tpl_laws.proofs.Carrying.{Ends, drops, leaves, settled, how_ends, worse_faulted}
 use Rattle.tpl_laws.proofs.Chains.{ended_begun}
-use Rattle.tpl_laws.proofs.WideRows.{end_or}
+use Rattle.tpl_laws.proofs.TokenRows.{end_or}
 
 -- how WhenAll ends where its arguments end so
 abbrev pub fold_all : List ℕ → (ℕ → Final) → Final
@@ -254,7 +254,7 @@ module _ (g : TaskGraph) (v : List Bool) (h : List Event) (valid : IsGraph g) (r
   left_from (suc t) cut left = left_from t (narrowed_by g t (kind g t) cut) (left_by cut t (kind g t) refl left)
 
   -- a run agrees with what is left, narrowed
-  pub narrowed_agrees : (l : WideAssumed) → WideAgrees g l v h → Left l.assumed.left → WideAgrees g (narrowed g l) v h
+  pub narrowed_agrees : (l : LeafAssumed) → LeafAgrees g l v h → Left l.assumed.left → LeafAgrees g (narrowed g l) v h
   narrowed_agrees l ag left = record {
     agrees = record {
       inputs = ag.agrees.inputs;

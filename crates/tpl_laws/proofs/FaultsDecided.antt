@@ -5,7 +5,7 @@ use Rattle.std.proofs.lemmas.Bool.{cases_lt, ltb-true, lt-ltb}
 use Rattle.tpl_model.proofs.Truths.{true_false}
 use Rattle.tpl_model.specs.Graph.{TaskGraph, is_task}
 use Rattle.tpl_model.specs.Valid.{IsGraph}
-use Rattle.tpl_model.specs.Certificate.{Row, Assumed, IsClosed, AllTasks, IdsOfRows}
+use Rattle.tpl_model.specs.Certificate.{PlainRow, Assumed, IsClosed, AllTasks, IdsOfRows}
 use Rattle.tpl_laws.specs.RowTests.{runs, ends, before, past, chain}
 use Rattle.tpl_model.specs.declared.fault.Rule.{Rule}
 use Rattle.tpl_model.specs.declared.fault.Rule.TheVariants.{K1, K2, K3, K6}
@@ -52,7 +52,7 @@ rules_clear r a b c d e runs ends before past chain =
     (clear_unless r.past (r.chain × Unit {0}) d r.past_rule last past
     (clear_unless r.chain (Unit {0}) e K6 None chain clear))))
 
-pub broken_lem : PathLaws → (g : TaskGraph) (l : Assumed) (rows : List Row) (t : ℕ) → IsGraph g → Clears (broken g l rows t) (IsClosed g l rows t)
+pub broken_lem : PathLaws → (g : TaskGraph) (l : Assumed) (rows : List PlainRow) (t : ℕ) → IsGraph g → Clears (broken g l rows t) (IsClosed g l rows t)
 broken_lem paths g l rows t valid =
     let r = row_rules g l rows t in
     clear_means (r.runs × (r.ends × (r.before × (r.past × (r.chain × Unit {0}))))) (IsClosed g l rows t) (broken g l rows t)
@@ -92,14 +92,14 @@ tasks_decided : (g : TaskGraph) (xs : List ℕ) → Decides (has_tasks g xs) (Al
 tasks_decided g [] = (λ e. tt, λ u. refl)
 tasks_decided g (x ∷ xs) = both (is_task g x) (AllTasks g xs) (nat_lt x (length g.tasks)) (has_tasks g xs) (below_decided x (length g.tasks)) (tasks_decided g xs)
 
-row_decided : (g : TaskGraph) (r : Row) (rows : List Row) → Decides (rows_fit g rows) (IdsOfRows g rows) → Decides (rows_fit g (r ∷ rows)) ((AllTasks g r.before × (AllTasks g r.past × AllTasks g r.chain)) × IdsOfRows g rows)
+row_decided : (g : TaskGraph) (r : PlainRow) (rows : List PlainRow) → Decides (rows_fit g rows) (IdsOfRows g rows) → Decides (rows_fit g (r ∷ rows)) ((AllTasks g r.before × (AllTasks g r.past × AllTasks g r.chain)) × IdsOfRows g rows)
 row_decided g r rows d =
     both (AllTasks g r.before × (AllTasks g r.past × AllTasks g r.chain)) (IdsOfRows g rows) (has_tasks g r.before && (has_tasks g r.past && has_tasks g r.chain)) (rows_fit g rows)
     (both (AllTasks g r.before) (AllTasks g r.past × AllTasks g r.chain) (has_tasks g r.before) (has_tasks g r.past && has_tasks g r.chain) (tasks_decided g r.before)
     (both (AllTasks g r.past) (AllTasks g r.chain) (has_tasks g r.past) (has_tasks g r.chain) (tasks_decided g r.past) (tasks_decided g r.chain)))
     d
 
-pub rows_decided : (g : TaskGraph) (rows : List Row) → Decides (rows_fit g rows) (IdsOfRows g rows)
+pub rows_decided : (g : TaskGraph) (rows : List PlainRow) → Decides (rows_fit g rows) (IdsOfRows g rows)
 rows_decided g [] = (λ e. tt, λ u. refl)
 rows_decided g (r ∷ rows) = (
   λ e. let q = (row_decided g r rows (rows_decided g rows)).0 e in (q.0.0, q.0.1.0, q.0.1.1, q.1),

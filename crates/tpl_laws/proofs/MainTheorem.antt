@@ -1,5 +1,5 @@
 -- Some leaf of each tree agrees with a run so far, and what leaves show of the beginnings of a run holds of it.
-use Rattle.tpl_model.specs.declared.rule_set.RuleSet.TheVariants.{Narrow, Wide}
+use Rattle.tpl_model.specs.declared.rule_set.RuleSet.TheVariants.{WithoutTokens, WithTokens}
 use Rattle.tpl_model.specs.declared.rule_set.RuleSet.{RuleSet}
 use Rattle.tpl_laws.proofs.Sources.{through_more, through_twice}
 use Rattle.tpl_model.specs.declared.finals.Final.{Final}
@@ -17,7 +17,7 @@ use Rattle.tpl_model.specs.Rules.{final, Allows, Run, Settled, seen, label, toke
 use Rattle.tpl_model.specs.Claims.{input, Claim, IsGiven, SettledAtBegin, HoldsOf}
 use Rattle.tpl_laws.proofs.Basics.{if_false, some_none, the_some, same_number}
 use Rattle.tpl_laws.proofs.Kept.{after, requested_kept, failed_kept, final_kept}
-use Rattle.tpl_model.specs.Certificate.{Row, row, Assumed, Agrees, Tree, SplitInput, SplitEnd, Leaf, same, given_input, given_quiet, given_end, given_sure, assumed, with_input, with_end, NoneComplete, begins_itself, Proves, as_quiet, same_token, own_quiet, taken}
+use Rattle.tpl_model.specs.Certificate.{PlainRow, row, Assumed, Agrees, same, given_input, given_quiet, given_end, given_sure, assumed, with_input, with_end, NoneComplete, begins_itself, Proves, as_quiet, same_token, own_quiet, taken}
 use Rattle.tpl_laws.proofs.Ready.{IsBody}
 use Rattle.tpl_laws.proofs.Begins.{Begins, begins}
 use Rattle.tpl_laws.proofs.RowsAreTrue.{Upheld}
@@ -25,7 +25,6 @@ use Rattle.tpl_model.specs.declared.claim.Given.{Given}
 use Rattle.tpl_model.specs.declared.claim.Given.TheVariants.{Input, Quiet, Ended, Succeeds}
 use Rattle.tpl_model.specs.declared.claim.Property.{Property}
 use Rattle.tpl_model.specs.declared.claim.Property.TheVariants.{Final as EndsIn, After, Observed, Never, Excludes, Runs}
-use Rattle.tpl_laws.specs.Soundness.{HasLeaf, SomeLeafAgrees}
 use Rattle.tpl_laws.proofs.Arguments.{may_end_so}
 use Rattle.tpl_laws.proofs.Chains.{ended_begun}
 use Rattle.std.proofs.Common.{◌≡◌, ℕ, ◌++◌, ◌&&◌, ◌||◌, ◌⊎◌, inl, inr, not, Bool, true, false, if◌then◌else◌, Option, Some, None, List, [], ◌∷◌, refl, sym, ap, ◌∙◌, subst, nat_eq, is_some}
@@ -127,37 +126,6 @@ end_agrees g l v h t f ends agrees = record {
     by_test s e q false n = refl
 
 -- the branch of a split on an end that a run takes
-abbrev pub Branch : TaskGraph → List Bool → List Event → ℕ → Final → Type 0
-Branch g v h t f = (e : Final) → final g v h t ≡ Some e → is_final f e ≡ true
-
-pub branch_of : (g : TaskGraph) (v : List Bool) (h : List Event) (t : ℕ) → Branch g v h t RanToCompletion ⊎ Branch g v h t Canceled ⊎ Branch g v h t Faulted
-branch_of g v h t = by_end (final g v h t)
-  where
-    by_end : (o : Option Final) → ((e : Final) → o ≡ Some e → is_final RanToCompletion e ≡ true) ⊎ ((e : Final) → o ≡ Some e → is_final Canceled e ≡ true) ⊎ ((e : Final) → o ≡ Some e → is_final Faulted e ≡ true)
-    by_end None = inl (λ e q. some_none e (sym q))
-    by_end (Some RanToCompletion) = inl (λ e q. ap (is_final RanToCompletion) (sym (same_Some RanToCompletion e q)))
-    by_end (Some Canceled) = inr (inl (λ e q. ap (is_final Canceled) (sym (same_Some Canceled e q))))
-    by_end (Some Faulted) = inr (inr (λ e q. ap (is_final Faulted) (sym (same_Some Faulted e q))))
-
-leaf_agrees : (g : TaskGraph) (l : Assumed) (tree : Tree) (v : List Bool) (h : List Event) → Agrees g l v h → (m : Assumed) × (rows : List Row) × HasLeaf l tree m rows × Agrees g m v h
-leaf_agrees g l (SplitInput i a b) v h agrees =
-    elim (cases_Bool (input v i)) [
-      | inl e ↦ let w = leaf_agrees g (with_input l i true) a v h (input_agrees g l v h i true e agrees) in (w.0, w.1, inl w.2, w.3)
-      | inr e ↦ let w = leaf_agrees g (with_input l i false) b v h (input_agrees g l v h i false e agrees) in (w.0, w.1, inr w.2, w.3)
-    ]
-leaf_agrees g l (SplitEnd t a b c) v h agrees =
-    elim (branch_of g v h t) [
-      | inl e ↦ let w = leaf_agrees g (with_end l t RanToCompletion) a v h (end_agrees g l v h t RanToCompletion e agrees) in (w.0, w.1, inl w.2, w.3)
-      | inr d ↦ elim d [
-        | inl e ↦ let w = leaf_agrees g (with_end l t Canceled) b v h (end_agrees g l v h t Canceled e agrees) in (w.0, w.1, inr (inl w.2), w.3)
-        | inr e ↦ let w = leaf_agrees g (with_end l t Faulted) c v h (end_agrees g l v h t Faulted e agrees) in (w.0, w.1, inr (inr w.2), w.3)
-      ]
-    ]
-leaf_agrees g l (Leaf rows) v h agrees = (l, rows, (refl, refl), agrees)
-
-pub some_leaf_lem : SomeLeafAgrees
-some_leaf_lem g given tree v h i = leaf_agrees g (assumed g given) tree v h (given_agrees g v h given i)
-
 -- what is given stays so towards the first event
 given_before : (g : TaskGraph) (v : List Bool) (h : List Event) (a : Actor) (x : Act) (given : List Given) → Allows g v h a x → IsGiven g v (after a x h) given → IsGiven g v h given
 given_before g v h a x [] al i = tt
@@ -181,8 +149,8 @@ both_given g v h (Succeeds site ∷ xs) ys i j = (i.0, both_given g v h xs ys i.
 
 -- what may be taken as given is, where the claim's given is and the own tokens aren't requested
 pub is_taken : (rules : RuleSet) (g : TaskGraph) (claim : Claim) (v : List Bool) (h : List Event) → IsGiven g v h claim.given → IsGiven g v h (own_quiet g claim.body) → IsGiven g v h (taken rules g claim)
-is_taken Wide g claim v h i q = both_given g v h (own_quiet g claim.body) claim.given q i
-is_taken Narrow g claim v h i q = i
+is_taken WithTokens g claim v h i q = both_given g v h (own_quiet g claim.body) claim.given q i
+is_taken WithoutTokens g claim v h i q = i
 
 -- a token that isn't requested may be given as quiet
 not_asked : (g : TaskGraph) (v : List Bool) (h : List Event) (o : Option ℕ) → token_requested_by o (requested g v h) ≡ false → IsGiven g v h (as_quiet o)
@@ -190,7 +158,7 @@ not_asked g v h None e = tt
 not_asked g v h (Some k) e = (e, tt)
 
 -- what a leaf shows of a run: that an exception is observed, or what proves the property
-abbrev pub Shows : TaskGraph → Assumed → List Row → List Bool → List Event → Property TaskId → Type 0
+abbrev pub Shows : TaskGraph → Assumed → List PlainRow → List Bool → List Event → Property TaskId → Type 0
 Shows g l rows v h (Observed t) = Complete g v h → (lb : Label) → label g v h t.0 ≡ Some lb → seen g v h t.0 ≡ true
 Shows g l rows v h p = Proves g l rows p
 
@@ -198,14 +166,14 @@ Shows g l rows v h p = Proves g l rows p
 -- shows the property
 pub record ALeaf (g : TaskGraph) (v : List Bool) (h : List Event) (p : Property TaskId) : Type 0 where
   pub assumes : Assumed
-  pub rows : List Row
+  pub rows : List PlainRow
   pub upheld : Upheld g assumes rows v h
   pub runs : (t : ℕ) → Begins g v h t → (row rows t).runs ≡ true
   pub before : (t x : ℕ) → Begins g v h t → mem x (row rows t).before ≡ true → Settled g v h x
   pub shows : Shows g assumes rows v h p
 
 -- where a task that is no child can't end, no run is complete
-pub never_complete : (g : TaskGraph) (l : Assumed) (rows : List Row) (v : List Bool) (h : List Event) → Upheld g l rows v h → NoneComplete g rows → Complete g v h → ⊥
+pub never_complete : (g : TaskGraph) (l : Assumed) (rows : List PlainRow) (v : List Bool) (h : List Event) → Upheld g l rows v h → NoneComplete g rows → Complete g v h → ⊥
 never_complete g l rows v h now w complete =
     let e = the_some (ending g v h w.0) (complete w.0 w.1 (whatever (kind g w.0) (started g v h w.0) w.2)) in
     true_false (sym (may_end_so rows w.0 e.0.final (now.ends w.0 e.0.final (ap final_in e.1))) ∙ w.3)
@@ -215,7 +183,7 @@ never_complete g l rows v h now w complete =
     whatever k s e = refl
 
 -- in a complete run a root or continuation that can't be canceled has begun
-never_canceled : (g : TaskGraph) (l : Assumed) (rows : List Row) (v : List Bool) (h : List Event) (t : ℕ) → Upheld g l rows v h → is_task g t → begins_itself (kind g t) ≡ true → has (row rows t).ends Canceled ≡ false → Complete g v h → is_some (begun h t) ≡ true
+never_canceled : (g : TaskGraph) (l : Assumed) (rows : List PlainRow) (v : List Bool) (h : List Event) (t : ℕ) → Upheld g l rows v h → is_task g t → begins_itself (kind g t) ≡ true → has (row rows t).ends Canceled ≡ false → Complete g v h → is_some (begun h t) ≡ true
 never_canceled g l rows v h t now i b n complete =
     let k = by_kind (kind g t) b in
     let e = the_some (ending g v h t) (complete t i (k.1 (started g v h t))) in

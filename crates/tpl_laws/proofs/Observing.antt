@@ -18,7 +18,7 @@ use Rattle.tpl_model.specs.Paths.{MustObserve, passes_observe}
 use Rattle.tpl_laws.specs.RowTests.{faulted_view}
 use Rattle.tpl_laws.proofs.Basics.{some_none, the_some}
 use Rattle.tpl_laws.proofs.Kept.{running_facts, ending_kept, begun_kept, final_of}
-use Rattle.tpl_model.specs.Certificate.{Row, Assumed, is_loud, TakesOver, Reads}
+use Rattle.tpl_model.specs.Certificate.{PlainRow, Assumed, is_loud, TakesOver, Reads}
 use Rattle.tpl_laws.proofs.Execution.{passed, pushed, passes_or_stays, passes_running, stepped_or_before}
 use Rattle.tpl_laws.proofs.Follows.{Fits, follows, subject_kept, has_subject}
 use Rattle.tpl_laws.proofs.Settling.{has_subject_of, attached_child, parent_task, continues_task, all_task}
@@ -87,7 +87,7 @@ carried_end : (g : TaskGraph) (v : List Bool) (h : List Event) (y a : ℕ) (q : 
 carried_end g v h y a q f run e m p = same_Some f Faulted (sym p ∙ ap final_in e ∙ ap Some (carries_faulted g v h y a q run e m))
 
 -- a continuation that surely begins and sees y observes what y carries
-pub seer_observes : (g : TaskGraph) (l : Assumed) (rows : List Row) (v : List Bool) (h : List Event) (r n y a : ℕ) (q : Ending) → Upheld g l rows v h → Complete g v h → kind g r ≡ Continues n → ((f : Final) → final g v h n ≡ Some f → allows (options g r) f ≡ true) → is_loud g l r ≡ false → MustObserve (faulted_view g l r) (body g r) → Sees g v h r y q → mem a q.carried ≡ true → seen g v h a ≡ true
+pub seer_observes : (g : TaskGraph) (l : Assumed) (rows : List PlainRow) (v : List Bool) (h : List Event) (r n y a : ℕ) (q : Ending) → Upheld g l rows v h → Complete g v h → kind g r ≡ Continues n → ((f : Final) → final g v h n ≡ Some f → allows (options g r) f ≡ true) → is_loud g l r ≡ false → MustObserve (faulted_view g l r) (body g r) → Sees g v h r y q → mem a q.carried ≡ true → seen g v h a ≡ true
 seer_observes g l rows v h r n y a q now complete k allowed not_loud observes e m =
     let o = the_some (ending g v h r) (complete r (continues_task g r n k) (subst (λ z. to_end z (started g v h r) ≡ true) (sym k) refl)) in
     elim (ended_as g v h r n o.0 now.run k o.1) [
@@ -114,7 +114,7 @@ seer_observes g l rows v h r n y a q now complete k allowed not_loud observes e 
         observed_by g v h r n y a q now.run k e m (observes (passed g v h r) vd.0 path)
 
 -- the last of a chain observes what is carried to it
-pub reader_observes : (g : TaskGraph) (l : Assumed) (rows : List Row) (v : List Bool) (h : List Event) (r y a : ℕ) (q : Ending) → Upheld g l rows v h → Complete g v h → Reads g l rows r y → ending g v h y ≡ Some q → mem a q.carried ≡ true → seen g v h a ≡ true
+pub reader_observes : (g : TaskGraph) (l : Assumed) (rows : List PlainRow) (v : List Bool) (h : List Event) (r y a : ℕ) (q : Ending) → Upheld g l rows v h → Complete g v h → Reads g l rows r y → ending g v h y ≡ Some q → mem a q.carried ≡ true → seen g v h a ≡ true
 reader_observes g l rows v h r y a q now complete reads e m =
     seer_observes g l rows v h r y y a q now complete reads.after
     (λ f p. subst (λ z. allows (options g r) z ≡ true) (sym (carried_end g v h y a q f now.run e m p)) reads.on_faulted) reads.not_loud reads.observes (subject_is g v h r y a q now.run reads.after e m, e) m

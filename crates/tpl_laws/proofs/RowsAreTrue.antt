@@ -22,7 +22,7 @@ use Rattle.tpl_laws.proofs.Basics.{some_none, same_number}
 use Rattle.tpl_laws.proofs.Kept.{after, running_facts, final_kept, requested_kept, failed_kept}
 use Rattle.tpl_model.specs.Finals.{has}
 use Rattle.tpl_model.specs.Valid.{IsGraph}
-use Rattle.tpl_model.specs.Certificate.{Row, row, Assumed, Agrees, is_loud, loud_token, one_ends, subject_ends, subject_set, view}
+use Rattle.tpl_model.specs.Certificate.{PlainRow, row, Assumed, Agrees, is_loud, loud_token, one_ends, subject_ends, subject_set, view}
 use Rattle.tpl_laws.proofs.Execution.{passed, passes_or_stays, passes_running}
 use Rattle.tpl_laws.proofs.Ready.{EndedSo, Ready, begun_ready, any_winner}
 use Rattle.tpl_laws.proofs.Follows.{Fits, FollowsBy, winner_some}
@@ -52,7 +52,7 @@ verdict_path w body (Some verdict) left ps end e f = let s : verdict ≡ end = c
 verdict_path w body None Nothing ps end e f = let s : Returned ≡ end = cc in inl (f, sym s)
 verdict_path w body None (s ⨾ more) ps end e f = some_none end (sym e)
 
-pub one_ends_mem : (args : List ℕ) (rows : List Row) (s : ℕ) (f : Final) → mem s args ≡ true → has (row rows s).ends f ≡ true → one_ends args rows f ≡ true
+pub one_ends_mem : (args : List ℕ) (rows : List PlainRow) (s : ℕ) (f : Final) → mem s args ≡ true → has (row rows s).ends f ≡ true → one_ends args rows f ≡ true
 one_ends_mem [] rows s f m e = true_false (sym m)
 one_ends_mem (x ∷ args) rows s f m e =
     elim (mem_split s x args m) [
@@ -61,7 +61,7 @@ one_ends_mem (x ∷ args) rows s f m e =
     ]
 
 -- the view of a task that has begun is true of the run
-pub view_fits : (g : TaskGraph) (v : List Bool) (h : List Event) (l : Assumed) (rows : List Row) (t : ℕ) → Run g v h → Agrees g l v h → ((s : ℕ) (f : Final) → final g v h s ≡ Some f → has (row rows s).ends f ≡ true) → is_some (begun h t) ≡ true → Fits g v h t (view g l rows t)
+pub view_fits : (g : TaskGraph) (v : List Bool) (h : List Event) (l : Assumed) (rows : List PlainRow) (t : ℕ) → Run g v h → Agrees g l v h → ((s : ℕ) (f : Final) → final g v h s ≡ Some f → has (row rows s).ends f ≡ true) → is_some (begun h t) ≡ true → Fits g v h t (view g l rows t)
 view_fits g v h l rows t run agrees ends b = record {
   own = refl;
   inputs = agrees.inputs;
@@ -98,7 +98,7 @@ agrees_before g v h l a x al ag = record {
 }
 
 -- rows whose ends and begins are true of a run
-pub record Upheld (g : TaskGraph) (l : Assumed) (rows : List Row) (v : List Bool) (h : List Event) : Type 0 where
+pub record Upheld (g : TaskGraph) (l : Assumed) (rows : List PlainRow) (v : List Bool) (h : List Event) : Type 0 where
   pub valid : IsGraph g
   pub run : Run g v h
   pub agrees : Agrees g l v h

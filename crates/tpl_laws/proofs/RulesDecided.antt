@@ -16,7 +16,7 @@ use Rattle.tpl_model.specs.Graph.{TaskGraph, TaskKind, Root, Child, Continues, W
 use Rattle.tpl_model.specs.Rules.{to_end}
 use Rattle.tpl_model.specs.Valid.{IsGraph}
 use Rattle.tpl_model.specs.Paths.{Known, Path, MayEnd, MayThrow, MayStartChild, MustObserve}
-use Rattle.tpl_model.specs.Certificate.{Row, row, Assumed, end_left, is_loud, view, IsBelow, RunsRule, BodyMayEnd, MayBeCanceled, AllMayEnd, MayEndAs, BeforeRule, may_end_early, may_end, PastRule, TakesOver, Reads, Links, ChainRule, NoneComplete}
+use Rattle.tpl_model.specs.Certificate.{PlainRow, row, Assumed, end_left, is_loud, view, IsBelow, RunsRule, BodyMayEnd, MayBeCanceled, AllMayEnd, MayEndAs, BeforeRule, may_end_early, may_end, PastRule, TakesOver, Reads, Links, ChainRule, NoneComplete}
 use Rattle.tpl_model.specs.Recursion.{may, none, is_throw, must_observe, reaches}
 use Rattle.tpl_laws.specs.RowTests.{implies, all_in, some_end, parent_of, by_parent, is_below, runs_by, runs, is_return, is_acknowledgement, may_throw, body_may_end, may_be_canceled, all_may_end, may_end_as, ends, before_by, before, past_by, past, is_argument, takes_over, continues, faulted_view, reads, links, chain_by, chain, is_none, none_complete}
 use Rattle.tpl_laws.proofs.Parents.{at_parent, below}
@@ -55,7 +55,7 @@ module _ (paths : PathLaws) where
   nothing_asked : Decides true (Unit {0})
   nothing_asked = (λ e. tt, λ u. refl)
 
-  runs_decided : (g : TaskGraph) (l : Assumed) (rows : List Row) (t : ℕ) → IsGraph g → (k : TaskKind) → Decides (runs_by g l rows t k) (RunsRule g l rows t k)
+  runs_decided : (g : TaskGraph) (l : Assumed) (rows : List PlainRow) (t : ℕ) → IsGraph g → (k : TaskKind) → Decides (runs_by g l rows t k) (RunsRule g l rows t k)
   runs_decided g l rows t valid Root = itself (row rows t).runs
   runs_decided g l rows t valid (Continues a) =
       at_each_end (λ f. has (row rows a).ends f ≡ true → allows (options g t) f ≡ true → (row rows t).runs ≡ true)
@@ -72,11 +72,11 @@ module _ (paths : PathLaws) where
   runs_decided g l rows t valid (WhenAll args) = nothing_asked
   runs_decided g l rows t valid (WhenAny args) = nothing_asked
 
-  pub runs_lem : (g : TaskGraph) (l : Assumed) (rows : List Row) (t : ℕ) → IsGraph g → Decides (runs g l rows t) (RunsRule g l rows t (kind g t))
+  pub runs_lem : (g : TaskGraph) (l : Assumed) (rows : List PlainRow) (t : ℕ) → IsGraph g → Decides (runs g l rows t) (RunsRule g l rows t (kind g t))
   runs_lem g l rows t valid = runs_decided g l rows t valid (kind g t)
 
   -- its ends
-  child_faults : (g : TaskGraph) (l : Assumed) (rows : List Row) (t : ℕ) → Decides (some_in (λ c. reaches c (view g l rows t) (body g t) && has (row rows c).ends Faulted) (attached g t)) ((c : ℕ) × (mem c (attached g t) ≡ true) × MayStartChild (view g l rows t) (body g t) c × (has (row rows c).ends Faulted ≡ true))
+  child_faults : (g : TaskGraph) (l : Assumed) (rows : List PlainRow) (t : ℕ) → Decides (some_in (λ c. reaches c (view g l rows t) (body g t) && has (row rows c).ends Faulted) (attached g t)) ((c : ℕ) × (mem c (attached g t) ≡ true) × MayStartChild (view g l rows t) (body g t) c × (has (row rows c).ends Faulted ≡ true))
   child_faults g l rows t =
       means ((c : ℕ) × (mem c (attached g t) ≡ true) × (MayStartChild (view g l rows t) (body g t) c × (has (row rows c).ends Faulted ≡ true)))
       ((c : ℕ) × (mem c (attached g t) ≡ true) × MayStartChild (view g l rows t) (body g t) c × (has (row rows c).ends Faulted ≡ true))
@@ -86,7 +86,7 @@ module _ (paths : PathLaws) where
       (λ e. (e.0, e.1, e.2.0, e.2.1))
       (λ e. (e.0, e.1, (e.2, e.3)))
 
-  body_decided : (g : TaskGraph) (l : Assumed) (rows : List Row) (t : ℕ) (f : Final) → Decides (body_may_end g l rows t f) (BodyMayEnd g l rows t f)
+  body_decided : (g : TaskGraph) (l : Assumed) (rows : List PlainRow) (t : ℕ) (f : Final) → Decides (body_may_end g l rows t f) (BodyMayEnd g l rows t f)
   body_decided g l rows t RanToCompletion = returns_it (view g l rows t) (body g t)
   body_decided g l rows t Canceled = acknowledges_it (view g l rows t) (body g t)
   body_decided g l rows t Faulted =
@@ -102,10 +102,10 @@ module _ (paths : PathLaws) where
       (λ e. (e.0, e.1.0, e.1.1))
       (λ e. (e.0, (e.1, e.2)))
 
-  some_end_of : (rows : List Row) (x : ℕ) → Decides (some_end (has (row rows x).ends)) ((f : Final) × (has (row rows x).ends f ≡ true))
+  some_end_of : (rows : List PlainRow) (x : ℕ) → Decides (some_end (has (row rows x).ends)) ((f : Final) × (has (row rows x).ends f ≡ true))
   some_end_of rows x = at_some_end (λ f. has (row rows x).ends f ≡ true) (has (row rows x).ends) (λ f. itself (has (row rows x).ends f))
 
-  canceled_decided : (g : TaskGraph) (l : Assumed) (rows : List Row) (t a : ℕ) → Decides (may_be_canceled g l rows t a) (MayBeCanceled g l rows t a)
+  canceled_decided : (g : TaskGraph) (l : Assumed) (rows : List PlainRow) (t a : ℕ) → Decides (may_be_canceled g l rows t a) (MayBeCanceled g l rows t a)
   canceled_decided g l rows t a =
       either ((is_loud g l t ≡ true) × (lazy_cancellation (options g t) ≡ false))
       (((is_loud g l t ≡ true) × ((f : Final) × (has (row rows a).ends f ≡ true))) ⊎ ((f : Final) × (has (row rows a).ends f ≡ true) × (allows (options g t) f ≡ false)))
@@ -117,7 +117,7 @@ module _ (paths : PathLaws) where
       (both (is_loud g l t ≡ true) ((f : Final) × (has (row rows a).ends f ≡ true)) (is_loud g l t) (some_end (has (row rows a).ends)) (itself (is_loud g l t)) (some_end_of rows a))
       (some_end_both (λ f. has (row rows a).ends f ≡ true) (λ f. allows (options g t) f ≡ false) (has (row rows a).ends) (λ f. not (allows (options g t) f)) (λ f. itself (has (row rows a).ends f)) (λ f. opposite (allows (options g t) f))))
 
-  pub all_decided : (rows : List Row) (args : List ℕ) (f : Final) → Decides (all_may_end rows args f) (AllMayEnd rows args f)
+  pub all_decided : (rows : List PlainRow) (args : List ℕ) (f : Final) → Decides (all_may_end rows args f) (AllMayEnd rows args f)
   all_decided rows args RanToCompletion = of_all (λ x. has (row rows x).ends RanToCompletion ≡ true) (λ x. has (row rows x).ends RanToCompletion) args (λ x. itself (has (row rows x).ends RanToCompletion))
   all_decided rows args Canceled =
       both ((x : ℕ) → mem x args ≡ true → ((f : Final) × (is_final f Faulted ≡ false) × (has (row rows x).ends f ≡ true))) ((x : ℕ) × (mem x args ≡ true) × (has (row rows x).ends Canceled ≡ true))
@@ -131,13 +131,13 @@ module _ (paths : PathLaws) where
       (of_all (λ x. (f : Final) × (has (row rows x).ends f ≡ true)) (λ x. some_end (has (row rows x).ends)) args (λ x. some_end_of rows x))
       (of_some (λ x. has (row rows x).ends Faulted ≡ true) (λ x. has (row rows x).ends Faulted) args (λ x. itself (has (row rows x).ends Faulted)))
 
-  own_decided : (g : TaskGraph) (l : Assumed) (rows : List Row) (t : ℕ) (f : Final) → Decides ((row rows t).runs && (body_may_end g l rows t f || (is_final f Canceled && is_loud g l t))) (((row rows t).runs ≡ true) × (BodyMayEnd g l rows t f ⊎ ((f ≡ Canceled) × (is_loud g l t ≡ true))))
+  own_decided : (g : TaskGraph) (l : Assumed) (rows : List PlainRow) (t : ℕ) (f : Final) → Decides ((row rows t).runs && (body_may_end g l rows t f || (is_final f Canceled && is_loud g l t))) (((row rows t).runs ≡ true) × (BodyMayEnd g l rows t f ⊎ ((f ≡ Canceled) × (is_loud g l t ≡ true))))
   own_decided g l rows t f =
       both ((row rows t).runs ≡ true) (BodyMayEnd g l rows t f ⊎ ((f ≡ Canceled) × (is_loud g l t ≡ true))) (row rows t).runs (body_may_end g l rows t f || (is_final f Canceled && is_loud g l t)) (itself (row rows t).runs)
       (either (BodyMayEnd g l rows t f) ((f ≡ Canceled) × (is_loud g l t ≡ true)) (body_may_end g l rows t f) (is_final f Canceled && is_loud g l t) (body_decided g l rows t f)
       (both (f ≡ Canceled) (is_loud g l t ≡ true) (is_final f Canceled) (is_loud g l t) (same_end f Canceled) (itself (is_loud g l t))))
 
-  some_argument : (rows : List Row) (args : List ℕ) → Decides (some_in (λ x. some_end (has (row rows x).ends)) args) ((x : ℕ) × (e : Final) × (mem x args ≡ true) × (has (row rows x).ends e ≡ true))
+  some_argument : (rows : List PlainRow) (args : List ℕ) → Decides (some_in (λ x. some_end (has (row rows x).ends)) args) ((x : ℕ) × (e : Final) × (mem x args ≡ true) × (has (row rows x).ends e ≡ true))
   some_argument rows args =
       means ((x : ℕ) × (mem x args ≡ true) × ((e : Final) × (has (row rows x).ends e ≡ true))) ((x : ℕ) × (e : Final) × (mem x args ≡ true) × (has (row rows x).ends e ≡ true))
       (some_in (λ x. some_end (has (row rows x).ends)) args)
@@ -145,7 +145,7 @@ module _ (paths : PathLaws) where
       (λ e. (e.0, e.2.0, e.1, e.2.1))
       (λ e. (e.0, e.2, (e.1, e.3)))
 
-  end_decided : (g : TaskGraph) (l : Assumed) (rows : List Row) (t : ℕ) (k : TaskKind) (f : Final) → Decides (may_end_as g l rows t k f) (MayEndAs g l rows t k f)
+  end_decided : (g : TaskGraph) (l : Assumed) (rows : List PlainRow) (t : ℕ) (k : TaskKind) (f : Final) → Decides (may_end_as g l rows t k f) (MayEndAs g l rows t k f)
   end_decided g l rows t Root f = own_decided g l rows t f
   end_decided g l rows t Child f = own_decided g l rows t f
   end_decided g l rows t (Continues a) f =
@@ -156,7 +156,7 @@ module _ (paths : PathLaws) where
   end_decided g l rows t (WhenAny args) f =
       both (f ≡ RanToCompletion) ((x : ℕ) × (e : Final) × (mem x args ≡ true) × (has (row rows x).ends e ≡ true)) (is_final f RanToCompletion) (some_in (λ x. some_end (has (row rows x).ends)) args) (same_end f RanToCompletion) (some_argument rows args)
 
-  pub ends_lem : (g : TaskGraph) (l : Assumed) (rows : List Row) (t : ℕ) → Decides (ends g l rows t) ((f : Final) → end_left l t f ≡ true → MayEndAs g l rows t (kind g t) f → has (row rows t).ends f ≡ true)
+  pub ends_lem : (g : TaskGraph) (l : Assumed) (rows : List PlainRow) (t : ℕ) → Decides (ends g l rows t) ((f : Final) → end_left l t f ≡ true → MayEndAs g l rows t (kind g t) f → has (row rows t).ends f ≡ true)
   ends_lem g l rows t =
       at_each_end (λ f. end_left l t f ≡ true → MayEndAs g l rows t (kind g t) f → has (row rows t).ends f ≡ true)
       (λ f. implies (end_left l t f) (implies (may_end_as g l rows t (kind g t) f) (has (row rows t).ends f)))
@@ -168,23 +168,23 @@ module _ (paths : PathLaws) where
   nothing_there : Decides false ⊥
   nothing_there = (λ e. true_false (sym e), λ z. absurd z)
 
-  or_past : (rows : List Row) (x y : ℕ) → Decides (nat_eq x y || mem x (row rows y).past) ((x ≡ y) ⊎ (mem x (row rows y).past ≡ true))
+  or_past : (rows : List PlainRow) (x y : ℕ) → Decides (nat_eq x y || mem x (row rows y).past) ((x ≡ y) ⊎ (mem x (row rows y).past ≡ true))
   or_past rows x y = either (x ≡ y) (mem x (row rows y).past ≡ true) (nat_eq x y) (mem x (row rows y).past) (same x y) (itself (mem x (row rows y).past))
 
-  before_decided : (g : TaskGraph) (rows : List Row) (t : ℕ) → IsGraph g → (k : TaskKind) (x : ℕ) → Decides (before_by g rows t k x) (BeforeRule g rows t k x)
+  before_decided : (g : TaskGraph) (rows : List PlainRow) (t : ℕ) → IsGraph g → (k : TaskKind) (x : ℕ) → Decides (before_by g rows t k x) (BeforeRule g rows t k x)
   before_decided g rows t valid Root x = nothing_there
   before_decided g rows t valid (Continues a) x = or_past rows x a
   before_decided g rows t valid Child x = at_parent g t (λ p. mem x (row rows p).before ≡ true) (λ p. mem x (row rows p).before) valid (λ p. itself (mem x (row rows p).before))
   before_decided g rows t valid (WhenAll args) x = nothing_asked
   before_decided g rows t valid (WhenAny args) x = nothing_asked
 
-  pub before_lem : (g : TaskGraph) (rows : List Row) (t : ℕ) → IsGraph g → Decides (before g rows t) ((row rows t).runs ≡ true → (x : ℕ) → mem x (row rows t).before ≡ true → BeforeRule g rows t (kind g t) x)
+  pub before_lem : (g : TaskGraph) (rows : List PlainRow) (t : ℕ) → IsGraph g → Decides (before g rows t) ((row rows t).runs ≡ true → (x : ℕ) → mem x (row rows t).before ≡ true → BeforeRule g rows t (kind g t) x)
   before_lem g rows t valid =
       only_if ((row rows t).runs ≡ true) ((x : ℕ) → mem x (row rows t).before ≡ true → BeforeRule g rows t (kind g t) x) (row rows t).runs (all_in (before_by g rows t (kind g t)) (row rows t).before) (itself (row rows t).runs)
       (of_all (BeforeRule g rows t (kind g t)) (before_by g rows t (kind g t)) (row rows t).before (λ x. before_decided g rows t valid (kind g t) x))
 
   -- what is past it
-  past_decided : (g : TaskGraph) (l : Assumed) (rows : List Row) (t : ℕ) → IsGraph g → (k : TaskKind) (x : ℕ) → Decides (past_by g l rows t k x) (PastRule g l rows t k x)
+  past_decided : (g : TaskGraph) (l : Assumed) (rows : List PlainRow) (t : ℕ) → IsGraph g → (k : TaskKind) (x : ℕ) → Decides (past_by g l rows t k x) (PastRule g l rows t k x)
   past_decided g l rows t valid Root x = below g t x valid
   past_decided g l rows t valid Child x =
       either ((p : ℕ) → IsParent g p t → mem x (row rows p).before ≡ true) (IsBelow g t x) (by_parent (parent_of g t) (λ p. mem x (row rows p).before)) (is_below g t x)
@@ -196,7 +196,7 @@ module _ (paths : PathLaws) where
   past_decided g l rows t valid (WhenAny args) x =
       of_all (λ y. (x ≡ y) ⊎ (mem x (row rows y).past ≡ true)) (λ y. nat_eq x y || mem x (row rows y).past) args (λ y. or_past rows x y)
 
-  pub past_lem : (g : TaskGraph) (l : Assumed) (rows : List Row) (t : ℕ) → IsGraph g → Decides (past g l rows t) ((x : ℕ) → mem x (row rows t).past ≡ true → PastRule g l rows t (kind g t) x)
+  pub past_lem : (g : TaskGraph) (l : Assumed) (rows : List PlainRow) (t : ℕ) → IsGraph g → Decides (past g l rows t) ((x : ℕ) → mem x (row rows t).past ≡ true → PastRule g l rows t (kind g t) x)
   past_lem g l rows t valid = of_all (PastRule g l rows t (kind g t)) (past_by g l rows t (kind g t)) (row rows t).past (λ x. past_decided g l rows t valid (kind g t) x)
 
   -- who reads its exception
@@ -213,7 +213,7 @@ module _ (paths : PathLaws) where
       means (a ≡ y) (Continues a ≡ Continues y) (nat_eq a y) (same a y) (λ e. subst (λ z. Continues a ≡ Continues z) e refl) (λ e. cc)
   continues_decided y k = (λ e. true_false (sym e), λ e. absurd (cc))
 
-  pub reads_decided : (g : TaskGraph) (l : Assumed) (rows : List Row) (r y : ℕ) → Decides (reads g l r y) (Reads g l rows r y)
+  pub reads_decided : (g : TaskGraph) (l : Assumed) (rows : List PlainRow) (r y : ℕ) → Decides (reads g l r y) (Reads g l rows r y)
   reads_decided g l rows r y =
       means ((kind g r ≡ Continues y) × ((allows (options g r) Faulted ≡ true) × ((is_loud g l r ≡ false) × MustObserve (faulted_view g l r) (body g r)))) (Reads g l rows r y) (reads g l r y)
       (both (kind g r ≡ Continues y) ((allows (options g r) Faulted ≡ true) × ((is_loud g l r ≡ false) × MustObserve (faulted_view g l r) (body g r))) (continues y (kind g r)) (allows (options g r) Faulted && (not (is_loud g l r) && must_observe (faulted_view g l r) (body g r))) (continues_decided y (kind g r))
@@ -222,16 +222,16 @@ module _ (paths : PathLaws) where
       (λ e. record { after = e.0; on_faulted = e.1.0; not_loud = e.1.1.0; observes = e.1.1.1 })
       (λ e. (e.after, (e.on_faulted, (e.not_loud, e.observes))))
 
-  links_decided : (g : TaskGraph) (l : Assumed) (rows : List Row) (y : ℕ) (xs : List ℕ) → Decides (links g l y xs) (Links g l rows y xs)
+  links_decided : (g : TaskGraph) (l : Assumed) (rows : List PlainRow) (y : ℕ) (xs : List ℕ) → Decides (links g l y xs) (Links g l rows y xs)
   links_decided g l rows y [] = nothing_there
   links_decided g l rows y (x ∷ []) = reads_decided g l rows x y
   links_decided g l rows y (x ∷ z ∷ zs) = both (TakesOver g x y) (Links g l rows x (z ∷ zs)) (takes_over g x y) (links g l x (z ∷ zs)) (takes_decided g x y) (links_decided g l rows x (z ∷ zs))
 
-  chain_decided : (g : TaskGraph) (l : Assumed) (rows : List Row) (t : ℕ) (xs : List ℕ) → Decides (chain_by g l t xs) (ChainRule g l rows t xs)
+  chain_decided : (g : TaskGraph) (l : Assumed) (rows : List PlainRow) (t : ℕ) (xs : List ℕ) → Decides (chain_by g l t xs) (ChainRule g l rows t xs)
   chain_decided g l rows t [] = nothing_asked
   chain_decided g l rows t (x ∷ xs) = links_decided g l rows t (x ∷ xs)
 
-  pub chain_lem : (g : TaskGraph) (l : Assumed) (rows : List Row) (t : ℕ) → Decides (chain g l rows t) (ChainRule g l rows t (row rows t).chain)
+  pub chain_lem : (g : TaskGraph) (l : Assumed) (rows : List PlainRow) (t : ℕ) → Decides (chain g l rows t) (ChainRule g l rows t (row rows t).chain)
   chain_lem g l rows t = chain_decided g l rows t (row rows t).chain
 
   -- what proves a claim, besides
@@ -239,7 +239,7 @@ module _ (paths : PathLaws) where
   none_decided [] = (λ e. refl, λ e. refl)
   none_decided (x ∷ xs) = (λ e. true_false (sym e), λ e. absurd (cc))
 
-  pub none_complete_decided : (g : TaskGraph) (rows : List Row) → Decides (none_complete g rows) (NoneComplete g rows)
+  pub none_complete_decided : (g : TaskGraph) (rows : List PlainRow) → Decides (none_complete g rows) (NoneComplete g rows)
   none_complete_decided g rows =
       means ((x : ℕ) × is_task g x × ((to_end (kind g x) false ≡ true) × (may_end rows x ≡ false))) (NoneComplete g rows) (none_complete g rows)
       (below_some (λ x. (to_end (kind g x) false ≡ true) × (may_end rows x ≡ false)) (λ x. to_end (kind g x) false && not (may_end rows x)) (length g.tasks)

@@ -16,7 +16,7 @@ use Rattle.tpl_model.specs.declared.event.Act.TheVariants.{Step, Worked}
 use Rattle.tpl_model.specs.declared.event.Event.{Event}
 use Rattle.tpl_model.specs.Facts.{Rest, Ending, on, over, begun, is_cancel, stepped, worked, rest, requested, requested_itself, ending}
 use Rattle.tpl_model.specs.Rules.{Allows, Run, steps, works}
-use Rattle.tpl_model.specs.WiderRules.{linked}
+use Rattle.tpl_model.specs.TokenRules.{linked}
 use Rattle.tpl_laws.proofs.Basics.{same_number}
 use Rattle.tpl_laws.proofs.Kept.{id, after, not_some, requested_kept}
 use Rattle.tpl_laws.proofs.Sources.{through_here, through_more, through_twice}

@@ -11,13 +11,13 @@ use Rattle.tpl_model.specs.Valid.{IsGraph}
 use Rattle.tpl_model.specs.declared.ids.TaskId.{TaskId}
 use Rattle.tpl_model.specs.declared.claim.Property.{Property}
 use Rattle.tpl_model.specs.declared.claim.Property.TheVariants.{Final as EndsIn, After, Observed, Never, Excludes, Runs}
-use Rattle.tpl_model.specs.Certificate.{Row, row, Assumed, begins_itself}
+use Rattle.tpl_model.specs.Certificate.{PlainRow, row, Assumed, begins_itself}
 use Rattle.tpl_model.specs.Claims.{Claim, HoldsOf, Holds}
 use Rattle.tpl_laws.specs.RowTests.{implies, each_end, may_throw, is_none, none_complete}
 use Rattle.tpl_laws.specs.RunTests.{is_settled, is_complete, ends_within, is_given}
 
 -- a closed leaf proves the claim
-abbrev pub proves : TaskGraph → Assumed → List Row → Property TaskId → Bool
+abbrev pub proves : TaskGraph → Assumed → List PlainRow → Property TaskId → Bool
 proves g l rows (EndsIn t ends) = each_end (λ f. implies (has (row rows t.0).ends f) (has ends f))
 proves g l rows (After a b) = not (row rows b.0).runs || mem a.0 (row rows b.0).before
 proves g l rows (Observed t) =

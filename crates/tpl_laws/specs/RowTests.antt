@@ -7,7 +7,7 @@ use Rattle.tpl_model.specs.Options.{allows, lazy_cancellation}
 use Rattle.tpl_model.specs.Members.{mem}
 use Rattle.tpl_model.specs.Statements.{starts}
 use Rattle.tpl_model.specs.Graph.{TaskGraph, TaskKind, Root, Child, Continues, WhenAll, WhenAny, task, kind, body, options, attached, some_in}
-use Rattle.tpl_model.specs.Certificate.{Row, row, Assumed, end_left, is_loud, view, may_end_early, may_end}
+use Rattle.tpl_model.specs.Certificate.{PlainRow, row, Assumed, end_left, is_loud, view, may_end_early, may_end}
 use Rattle.tpl_model.specs.Rules.{to_end}
 use Rattle.tpl_model.specs.Paths.{Known}
 pub use Rattle.tpl_model.specs.Ends.{is_return, is_acknowledgement}
@@ -60,7 +60,7 @@ abbrev pub is_below : TaskGraph → ℕ → ℕ → Bool
 is_below g t x = below_within g t x x
 
 -- a task has a row that runs, if it may begin
-abbrev pub runs_by : TaskGraph → Assumed → List Row → ℕ → TaskKind → Bool
+abbrev pub runs_by : TaskGraph → Assumed → List PlainRow → ℕ → TaskKind → Bool
 runs_by g l rows t Root = (row rows t).runs
 runs_by g l rows t (Continues a) = each_end (λ f. implies (has (row rows a).ends f) (implies (allows (options g t) f) (row rows t).runs))
 runs_by g l rows t Child =
@@ -68,35 +68,35 @@ runs_by g l rows t Child =
 runs_by g l rows t kind = true
 
 -- K1
-abbrev pub runs : TaskGraph → Assumed → List Row → ℕ → Bool
+abbrev pub runs : TaskGraph → Assumed → List PlainRow → ℕ → Bool
 runs g l rows t = runs_by g l rows t (kind g t)
 
 -- the body of t may throw
-abbrev pub may_throw : TaskGraph → Assumed → List Row → ℕ → Bool
+abbrev pub may_throw : TaskGraph → Assumed → List PlainRow → ℕ → Bool
 may_throw g l rows t = may none is_throw (view g l rows t) (body g t)
 
 -- the body of t may end the task so
-abbrev pub body_may_end : TaskGraph → Assumed → List Row → ℕ → Final → Bool
+abbrev pub body_may_end : TaskGraph → Assumed → List PlainRow → ℕ → Final → Bool
 body_may_end g l rows t RanToCompletion = may none is_return (view g l rows t) (body g t)
 body_may_end g l rows t Canceled = may none is_acknowledgement (view g l rows t) (body g t)
 body_may_end g l rows t Faulted =
     may_throw g l rows t || some_in (λ c. reaches c (view g l rows t) (body g t) && has (row rows c).ends Faulted) (attached g t)
 
 -- a continuation may be canceled without its body
-abbrev pub may_be_canceled : TaskGraph → Assumed → List Row → ℕ → ℕ → Bool
+abbrev pub may_be_canceled : TaskGraph → Assumed → List PlainRow → ℕ → ℕ → Bool
 may_be_canceled g l rows t a =
     (is_loud g l t && not (lazy_cancellation (options g t)))
     || ((is_loud g l t && some_end (has (row rows a).ends)) || some_end (λ f. has (row rows a).ends f && not (allows (options g t) f)))
 
 -- how WhenAll may end
-abbrev pub all_may_end : List Row → List ℕ → Final → Bool
+abbrev pub all_may_end : List PlainRow → List ℕ → Final → Bool
 all_may_end rows args RanToCompletion = all_in (λ x. has (row rows x).ends RanToCompletion) args
 all_may_end rows args Canceled =
     all_in (λ x. some_end (λ f. not (is_final f Faulted) && has (row rows x).ends f)) args && some_in (λ x. has (row rows x).ends Canceled) args
 all_may_end rows args Faulted = all_in (λ x. some_end (has (row rows x).ends)) args && some_in (λ x. has (row rows x).ends Faulted) args
 
 -- how a task may end
-abbrev pub may_end_as : TaskGraph → Assumed → List Row → ℕ → TaskKind → Final → Bool
+abbrev pub may_end_as : TaskGraph → Assumed → List PlainRow → ℕ → TaskKind → Final → Bool
 may_end_as g l rows t Root f = (row rows t).runs && (body_may_end g l rows t f || (is_final f Canceled && is_loud g l t))
 may_end_as g l rows t Child f = (row rows t).runs && (body_may_end g l rows t f || (is_final f Canceled && is_loud g l t))
 may_end_as g l rows t (Continues a) f = ((row rows t).runs && body_may_end g l rows t f) || (is_final f Canceled && may_be_canceled g l rows t a)
@@ -104,22 +104,22 @@ may_end_as g l rows t (WhenAll args) f = all_may_end rows args f
 may_end_as g l rows t (WhenAny args) f = is_final f RanToCompletion && some_in (λ x. some_end (has (row rows x).ends)) args
 
 -- K2
-abbrev pub ends : TaskGraph → Assumed → List Row → ℕ → Bool
+abbrev pub ends : TaskGraph → Assumed → List PlainRow → ℕ → Bool
 ends g l rows t = each_end (λ f. implies (end_left l t f) (implies (may_end_as g l rows t (kind g t) f) (has (row rows t).ends f)))
 
 -- what may be taken as settled when a task begins
-abbrev pub before_by : TaskGraph → List Row → ℕ → TaskKind → ℕ → Bool
+abbrev pub before_by : TaskGraph → List PlainRow → ℕ → TaskKind → ℕ → Bool
 before_by g rows t Root x = false
 before_by g rows t (Continues a) x = nat_eq x a || mem x (row rows a).past
 before_by g rows t Child x = by_parent (parent_of g t) (λ p. mem x (row rows p).before)
 before_by g rows t kind x = true
 
 -- K3
-abbrev pub before : TaskGraph → List Row → ℕ → Bool
+abbrev pub before : TaskGraph → List PlainRow → ℕ → Bool
 before g rows t = implies (row rows t).runs (all_in (before_by g rows t (kind g t)) (row rows t).before)
 
 -- what may be taken as settled when a task has ended
-abbrev pub past_by : TaskGraph → Assumed → List Row → ℕ → TaskKind → ℕ → Bool
+abbrev pub past_by : TaskGraph → Assumed → List PlainRow → ℕ → TaskKind → ℕ → Bool
 past_by g l rows t Root x = is_below g t x
 past_by g l rows t Child x = by_parent (parent_of g t) (λ p. mem x (row rows p).before) || is_below g t x
 past_by g l rows t (Continues a) x = (not (may_end_early g l rows t) && (nat_eq x a || mem x (row rows a).past)) || is_below g t x
@@ -127,7 +127,7 @@ past_by g l rows t (WhenAll args) x = some_in (λ y. nat_eq x y || mem x (row ro
 past_by g l rows t (WhenAny args) x = all_in (λ y. nat_eq x y || mem x (row rows y).past) args
 
 -- K4 and K5
-abbrev pub past : TaskGraph → Assumed → List Row → ℕ → Bool
+abbrev pub past : TaskGraph → Assumed → List PlainRow → ℕ → Bool
 past g l rows t = all_in (past_by g l rows t (kind g t)) (row rows t).past
 
 -- a WhenAll task has the argument y
@@ -164,7 +164,7 @@ chain_by g l t [] = true
 chain_by g l t (x ∷ chain) = links g l t (x ∷ chain)
 
 -- K6
-abbrev pub chain : TaskGraph → Assumed → List Row → ℕ → Bool
+abbrev pub chain : TaskGraph → Assumed → List PlainRow → ℕ → Bool
 chain g l rows t = chain_by g l t (row rows t).chain
 
 -- the list is empty
@@ -178,5 +178,5 @@ some_below test zero = false
 some_below test (suc n) = test n || some_below test n
 
 -- a task that has to end, started or not, can't
-abbrev pub none_complete : TaskGraph → List Row → Bool
+abbrev pub none_complete : TaskGraph → List PlainRow → Bool
 none_complete g rows = some_below (λ x. to_end (kind g x) false && not (may_end rows x)) (length g.tasks)

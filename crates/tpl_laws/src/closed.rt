@@ -1,6 +1,6 @@
 //! When a certificate is accepted, by tests that compute, and the first place at which one fails.
 
-ghost use Rattle.tpl_laws.specs.Prelude.{BeforeIsRight, BelowInOnePass, BelowIsRight, BrokenIsRight, ChainIsRight, EndsIsRight, FaultIsFirst, FirstBrokenIsRight, OneFirstFault, OneFirstWideFault, ParentIsRight, PastIsRight, PathLaws, ProvesIsRight, RunsIsRight, VerdictIsRight, VerdictIsSound, WideBrokenIsRight, WideFaultIsFirst, WideLeafIsRight, WideTreeIsRight, WideVerdictIsRight, WideVerdictIsSound};
+ghost use Rattle.tpl_laws.specs.Prelude.{BeforeIsRight, BelowInOnePass, BelowIsRight, BrokenIsRight, ChainIsRight, EndsIsRight, FaultIsFirst, FirstBrokenIsRight, OneFirstFault, OneFirstTokenFault, ParentIsRight, PastIsRight, PathLaws, ProvesIsRight, RunsIsRight, VerdictIsRight, VerdictIsSound, TokenBrokenIsRight, TokenFaultIsFirst, TokenLeafIsRight, TokenTreeIsRight, TokenVerdictIsRight, TokenVerdictIsSound};
 
 /// The recursion over a body finds what its paths say.
 fn path_laws()
@@ -110,49 +110,49 @@ pub fn one_first_fault()
 {}
 
 /// A fault that the verdict names for a certificate of rows with tokens is the first one.
-pub fn wide_fault_is_first()
-    ensures { WideFaultIsFirst }
+pub fn token_fault_is_first()
+    ensures { TokenFaultIsFirst }
 {
     path_laws();
 }
 
 /// A certificate of rows with tokens has one first fault at most.
-pub fn one_first_wide_fault()
-    ensures { OneFirstWideFault }
+pub fn one_first_token_fault()
+    ensures { OneFirstTokenFault }
 {}
 
-/// The row of a task breaks none of the wider rules just where it keeps them all.
-pub fn wide_broken_is_right()
-    ensures { WideBrokenIsRight }
+/// The row of a task breaks none of the rules with tokens just where it keeps them all.
+pub fn token_broken_is_right()
+    ensures { TokenBrokenIsRight }
 {
     path_laws();
 }
 
 /// A leaf of rows with tokens has no fault just where it is closed and proves the claim.
-pub fn wide_leaf_is_right()
-    ensures { WideLeafIsRight }
+pub fn token_leaf_is_right()
+    ensures { TokenLeafIsRight }
 {
     path_laws();
 }
 
 /// A tree of rows with tokens fits and has no fault just where it is accepted.
-pub fn wide_tree_is_right()
-    ensures { WideTreeIsRight }
+pub fn token_tree_is_right()
+    ensures { TokenTreeIsRight }
 {
     path_laws();
 }
 
 /// The verdict on a certificate of rows with tokens finds no fault just where it is accepted.
-pub fn wide_verdict_is_right()
-    ensures { WideVerdictIsRight }
+pub fn token_verdict_is_right()
+    ensures { TokenVerdictIsRight }
 {
     path_laws();
 }
 
 /// Where that verdict finds no fault, each claim holds in every run.
-pub fn wide_verdict_is_sound()
-    ensures { WideVerdictIsSound }
+pub fn token_verdict_is_sound()
+    ensures { TokenVerdictIsSound }
 {
     path_laws();
-    crate::sound::wide_soundness();
+    crate::sound::token_soundness();
 }

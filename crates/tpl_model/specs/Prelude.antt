@@ -1,5 +1,5 @@
 -- The definitions that sources cite, passed on from one place. Declares nothing.
-pub use Rattle.tpl_model.specs.Certificate.{Accepts, AcceptsTree, Assumed, Leaf, as_quiet, assumed, assumed_for, begins_itself, end_left, given_quiet, is_loud, may_end, may_end_early, one_ends, own_quiet, row, same, subject_set, view, with_end, with_input}
+pub use Rattle.tpl_model.specs.Certificate.{Accepts, AcceptsTree, ArePlain, Assumed, IsPlain, LeastLeaf, OnEnd, OnInput, OnWinner, PlainRow, Row, RowsLeaf, Tree, as_quiet, assumed, assumed_for, begins_itself, end_left, given_quiet, is_loud, may_end, may_end_early, one_ends, own_quiet, plain, row, same, subject_set, view, with_end, with_input}
 pub use Rattle.tpl_model.specs.Claims.{AreAll, HasNoGap, Holds, HoldsOf, IsGiven, SettledAtBegin, bodied_tasks, named_tasks, names, property_map, somes, try_map}
 pub use Rattle.tpl_model.specs.Cursor.{BeginsWith, behind, behind_choice, chosen, left_at}
 pub use Rattle.tpl_model.specs.Ends.{checked, either_end, ends_at, ends_in, only_if, then_ends}
@@ -22,4 +22,4 @@ pub use Rattle.tpl_model.specs.TaskSet.{IsSubset, IsTaskSet, SetsAreTheirMembers
 pub use Rattle.tpl_model.specs.Valid.{all_sites, bound}
 pub use Rattle.tpl_model.specs.Verdicts.{has_verdict}
 pub use Rattle.tpl_model.specs.View.{known, may_have}
-pub use Rattle.tpl_model.specs.WiderRules.{LeastLeaf, OnEnd, OnInput, OnWinner, Way, WideLeaf, WideTree, as_wide, as_wide_tree, asked_of, begins_with, ends_with, keeps, kind_left, known_at_end, known_at_start, linked, may_run, narrowed, once_ended, own_among, plain, reading, subject_left, way_final, wide_row, wide_view, widely_assumed}
+pub use Rattle.tpl_model.specs.TokenRules.{Way, asked_of, begins_with, ends_with, keeps, kind_left, known_at_end, known_at_start, linked, may_run, narrowed, once_ended, own_among, reading, subject_left, way_final, whole_row, token_view, assumed_with_tokens}

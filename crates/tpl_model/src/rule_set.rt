@@ -1,11 +1,11 @@
 //! By which rules a certificate is judged.
 
-/// By which rules a certificate is judged. What is accepted by the narrow ones is accepted by the
-/// wide ones too.
+/// By which rules a certificate is judged. What the rules without tokens accept, those with tokens
+/// accept too.
 #[derive(Clone, Copy, PartialEq, Eq, Debug)]
 pub enum RuleSet {
     /// The rules of versions 1 and 2 of documents.
-    Narrow,
+    WithoutTokens,
     /// The rules of version 3 of documents.
-    Wide,
+    WithTokens,
 }

@@ -72,7 +72,7 @@ fn with_stuck(
 /// By the rules the property is also proved where no run is complete.
 fn rests_on_ends(property: Property, rules: RuleSet) -> bool {
     match property {
-        Property::Observed(_) => rules == RuleSet::Wide,
+        Property::Observed(_) => rules == RuleSet::WithTokens,
         Property::Runs(_) => true,
         _ => false,
     }

@@ -27,7 +27,9 @@ pub(crate) fn is_reached(
         Property::Observed(task) => {
             let fate = parts.outline.fate(task);
             let throws = fate.runs && fate.ends.faulted && fate.verdicts.thrown;
-            has_chain || !throws || parts.rules == RuleSet::Wide && none_complete(parts, tasks)
+            has_chain
+                || !throws
+                || parts.rules == RuleSet::WithTokens && none_complete(parts, tasks)
         }
         Property::Never(task) => !parts.outline.fate(task).runs,
         Property::Excludes(first, second) => {
@@ -137,13 +139,13 @@ impl Places {
         }
     }
 
-    /// The first task is settled after each of those for which a WhenAny task waits; by the wide rules
+    /// The first task is settled after each of those for which a WhenAny task waits; by the rules with tokens
     /// after each of those that may end.
     fn is_past_any(&self, parts: Parts<'_>, task: TaskId) -> bool {
         let args = parts.followers.args(task);
         let winners = match parts.rules {
-            RuleSet::Narrow => *args,
-            RuleSet::Wide => parts.outline.ending(args),
+            RuleSet::WithoutTokens => *args,
+            RuleSet::WithTokens => parts.outline.ending(args),
         };
         winners.meets(&self.after) && winners.is_within(&self.after)
     }

@@ -9,7 +9,7 @@ use std::alloc::{AllocError, Global};
 use tpl_checker::{Assumptions, Below, parent, some_end};
 use tpl_graph::{Graph, Role};
 use tpl_model::{MOST_TASKS, RuleSet, TaskId, TaskSet};
-use tpl_trees::Row;
+use tpl_trees::{PlainRow, Row};
 
 /// What the rows of a leaf are made of.
 #[derive(Clone, Copy)]
@@ -68,7 +68,8 @@ fn row(
     };
     let past = past(parts, rows, task);
     let chain = chain.to_vec(alloc)?;
-    Ok(Row::new(fate.ends, fate.runs, before, past, chain))
+    let row = PlainRow::new(fate.ends, fate.runs, before, past, chain);
+    Ok(Row::without_tokens(row))
 }
 
 /// What is settled when a task begins: nothing before a root, before a continuation its antecedent
@@ -123,7 +124,7 @@ fn before_parent(graph: &Graph, rows: &[Row], task: TaskId) -> TaskSet
         None => TaskSet::empty(),
         Some(parent) => match rows.get(parent.0 as usize) {
             None => TaskSet::empty(),
-            Some(row) => row.before().copy(),
+            Some(row) => row.row().before().copy(),
         },
     }
 }
@@ -132,7 +133,7 @@ fn before_parent(graph: &Graph, rows: &[Row], task: TaskId) -> TaskSet
 fn settled_after(rows: &[Row], task: TaskId) -> TaskSet {
     let mut settled = match rows.get(task.0 as usize) {
         None => TaskSet::empty(),
-        Some(row) => row.past().copy(),
+        Some(row) => row.row().past().copy(),
     };
     if task.0 < MOST_TASKS {
         settled.insert(task);
@@ -167,7 +168,7 @@ fn settled_after_each(parts: Parts<'_>, rows: &[Row], tasks: &[TaskId]) -> TaskS
     settled
 }
 
-/// A task may end first of those for which a WhenAny task waits: by the wide rules one that can't end can't.
+/// A task may end first of those for which a WhenAny task waits: by the rules with tokens one that can't end can't.
 fn may_win(parts: Parts<'_>, task: TaskId) -> bool {
-    parts.rules == RuleSet::Narrow || some_end(parts.outline.fate(task).ends)
+    parts.rules == RuleSet::WithoutTokens || some_end(parts.outline.fate(task).ends)
 }

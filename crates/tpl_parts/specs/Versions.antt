@@ -1,7 +1,7 @@
 -- What the versions of documents have.
 use Rattle.std.specs.Prelude.{ℕ, Bool, true, false, List, [], ◌∷◌, codes}
 use Rattle.tpl_model.specs.declared.rule_set.RuleSet.{RuleSet}
-use Rattle.tpl_model.specs.declared.rule_set.RuleSet.TheVariants.{Narrow, Wide}
+use Rattle.tpl_model.specs.declared.rule_set.RuleSet.TheVariants.{WithoutTokens, WithTokens}
 use Rattle.tpl_parts.specs.declared.version.Version.{Version}
 use Rattle.tpl_parts.specs.declared.version.Version.TheVariants.{One, Two, Three}
 
@@ -17,11 +17,11 @@ is_third One = false
 is_third Two = false
 is_third Three = true
 
--- the rules by which a certificate is judged: the wide ones since version 3
+-- the rules by which a certificate is judged: those with tokens since version 3
 abbrev pub rules_since : Version → RuleSet
-rules_since One = Narrow
-rules_since Two = Narrow
-rules_since Three = Wide
+rules_since One = WithoutTokens
+rules_since Two = WithoutTokens
+rules_since Three = WithTokens
 
 -- the members that version 3 adds to a task
 abbrev pub task_remarks : Version → List (List ℕ)

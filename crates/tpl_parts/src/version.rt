@@ -37,13 +37,13 @@ impl Version {
         }
     }
 
-    /// The rules by which a certificate is judged: the wide ones since version 3.
+    /// The rules by which a certificate is judged: those with tokens since version 3.
     pub fn rules(self) -> RuleSet
         ensures { result ≡ rules_since self }
     {
         match self {
-            Version::One | Version::Two => RuleSet::Narrow,
-            Version::Three => RuleSet::Wide,
+            Version::One | Version::Two => RuleSet::WithoutTokens,
+            Version::Three => RuleSet::WithTokens,
         }
     }
 

@@ -5,7 +5,7 @@ use Rattle.std.proofs.lemmas.List.Elements.{All-head, All-tail}
 use Rattle.serde_json.specs.Data.{Data, Members, array, object, put}
 use Rattle.serde_json.specs.View.{items_of}
 use Rattle.tpl_model.specs.declared.rule_set.RuleSet.{RuleSet}
-use Rattle.tpl_model.specs.WiderRules.{WideTree}
+use Rattle.tpl_model.specs.Certificate.{Tree}
 use Rattle.tpl_draft.specs.Named.{Names}
 use Rattle.tpl_json.specs.Members.{list_or_none}
 use Rattle.tpl_json.specs.Passes.{each_from, at_number}
@@ -46,12 +46,12 @@ spelled_put ms s ds is =
     (record { top = record p.top { certificate = ds }; tasks = p.tasks; claims = p.claims; start = p.start; is_top = top_with ms p.top ds p.is_top; are_tasks = p.are_tasks; are_claims = p.are_claims; is_start = p.is_start; whole = ap (λ (z : Spelled). record z { certificate = ds }) p.whole })
 
 -- the values from n on
-read_from : (rules : RuleSet) (n : Names) (k : ℕ) (trees : List WideTree) → All (IsReadBack rules n) trees → each_from (λ j d. at_number j (read_tree rules n d)) k (map (tree_data rules n) trees) ≡ Ok trees
+read_from : (rules : RuleSet) (n : Names) (k : ℕ) (trees : List Tree) → All (IsReadBack rules n) trees → each_from (λ j d. at_number j (read_tree rules n d)) k (map (tree_data rules n) trees) ≡ Ok trees
 read_from rules n k [] all = each_empty (λ j d. at_number j (read_tree rules n d)) k
 read_from rules n k (t ∷ trees) all =
     each_cons (λ j d. at_number j (read_tree rules n d)) k (tree_data rules n t) (map (tree_data rules n) trees) t trees (rw (All-head (IsReadBack rules n) t trees all) refl) (read_from rules n (k + 1) trees (All-tail (IsReadBack rules n) t trees all))
 
-document_put : (s : Spelled) (doc : DocumentValue) (trees : List WideTree) → IsDocument s doc → All (IsReadBack (rules_since doc.version) doc.graph.names) trees
+document_put : (s : Spelled) (doc : DocumentValue) (trees : List Tree) → IsDocument s doc → All (IsReadBack (rules_since doc.version) doc.graph.names) trees
     → IsDocument (record s { certificate = map (tree_data (rules_since doc.version) doc.graph.names) trees }) (record doc { certificate = trees })
 document_put s doc trees is all = record {
   version = is.version;
@@ -66,7 +66,7 @@ document_put s doc trees is all = record {
   times = is.times;
 }
 
-pub is_read_back : (bytes with : List ℕ) (doc : DocumentValue) (trees : List WideTree) → Spells bytes doc → All (IsReadBack (rules_since doc.version) doc.graph.names) trees
+pub is_read_back : (bytes with : List ℕ) (doc : DocumentValue) (trees : List Tree) → Spells bytes doc → All (IsReadBack (rules_since doc.version) doc.graph.names) trees
     → HoldsCertificate bytes (certificate_data (rules_since doc.version) doc.graph.names trees) with → length with ≤ longest → Spells with (record doc { certificate = trees })
 is_read_back bytes with doc trees is all holds le =
     let ds = map (tree_data (rules_since doc.version) doc.graph.names) trees in

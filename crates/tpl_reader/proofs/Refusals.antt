@@ -2,7 +2,7 @@
 use Rattle.std.proofs.Common.{◌≡◌, ◌≤◌, ℕ, List, length, Ok, Bool, true, false, cond, inl, inr, refl, subst, sym}
 use Rattle.serde_json.specs.Data.{Data}
 use Rattle.tpl_model.specs.Claims.{Claim}
-use Rattle.tpl_model.specs.WiderRules.{WideTree}
+use Rattle.tpl_model.specs.Certificate.{Tree}
 use Rattle.tpl_draft.specs.Named.{Named}
 use Rattle.tpl_draft.specs.Numbered.{numbered}
 use Rattle.tpl_draft.specs.Refusals.{IsValid, Refuses}
@@ -45,7 +45,7 @@ module _ (s : Spelled) (g : Named) (valid : IsValid s.draft) (is : g ≡ numbere
     tree_refused (miss.Wrong (n, f)) h = ((valid, (cs, rw is at claims)), rw is at h)
     tree_refused miss.Memory h = tt
 
-    pub start_refused : (ts : List WideTree) → trees_in (rules_since s.version) g.names s.certificate ≡ Ok ts → (e : Miss StartFault) → Fails e (begin_in g s.start s.ended) → IsRefused s (start_fault e)
+    pub start_refused : (ts : List Tree) → trees_in (rules_since s.version) g.names s.certificate ≡ Ok ts → (e : Miss StartFault) → Fails e (begin_in g s.start s.ended) → IsRefused s (start_fault e)
     start_refused ts trees (miss.Wrong f) h = (((valid, (cs, rw is at claims)), (ts, rw is at trees)), rw is at h)
     start_refused ts trees miss.Memory h = tt
 

@@ -5,7 +5,7 @@ use Rattle.serde_json.specs.Read.{read}
 use Rattle.tpl_model.specs.declared.ids.TaskId.{TaskId}
 use Rattle.tpl_model.specs.declared.finals.Final.{Final}
 use Rattle.tpl_model.specs.Claims.{Claim}
-use Rattle.tpl_model.specs.WiderRules.{WideTree}
+use Rattle.tpl_model.specs.Certificate.{Tree}
 use Rattle.tpl_draft.specs.Named.{Named}
 use Rattle.tpl_draft.specs.Numbered.{numbered}
 use Rattle.tpl_draft.specs.Refusals.{IsValid, IsLeast}
@@ -34,7 +34,7 @@ pub record DocumentValue : Type 0 where
   pub graph : Named
   pub claims : List Claim
   pub names : List (Option (List ℕ))
-  pub certificate : List WideTree
+  pub certificate : List Tree
   pub journal : List ℕ
   pub start : Option StartValue
   pub ended : List (TaskId × Final)
@@ -65,7 +65,7 @@ HasClaims s = IsValid s.draft × ((claims : List Claim) × (claims_for s.version
 
 -- and the trees are read
 abbrev pub HasTrees : Spelled → Type 0
-HasTrees s = HasClaims s × ((trees : List WideTree) × (trees_in (rules_since s.version) (numbered s.draft).names s.certificate ≡ Ok trees))
+HasTrees s = HasClaims s × ((trees : List Tree) × (trees_in (rules_since s.version) (numbered s.draft).names s.certificate ≡ Ok trees))
 
 -- what is wrong with a document of the right shape: the graph, then a claim, then a tree, then the start
 abbrev pub IsRefused : Spelled → ReadFault → Type 0

@@ -11,4 +11,4 @@ pub use Rattle.tpl_reader.specs.SeenTop.{members_of}
 pub use Rattle.tpl_reader.specs.Shape.{parts_in, spelled_at}
 pub use Rattle.tpl_reader.specs.Starting.{inputs_of}
 pub use Rattle.tpl_reader.specs.Top.{added, are_times, ends_or_none, is_line_break, line_breaks, never_fall, text_or_empty, times_or_none, top_at, top_names, version_at, version_in, whole_at}
-pub use Rattle.tpl_reader.specs.Trees.{HasNoOthers, numbered_tree, trees_by, trees_in}
+pub use Rattle.tpl_reader.specs.Trees.{numbered_tree, trees_in}

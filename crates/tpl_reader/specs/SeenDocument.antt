@@ -6,7 +6,6 @@ use Rattle.tpl_draft.specs.Draft.{Draft}
 use Rattle.tpl_draft.specs.Ids.{token_number, site_number}
 use Rattle.tpl_draft.specs.SeenTasks.{draft_of}
 use Rattle.tpl_parts.specs.declared.version.Version.{Version}
-use Rattle.tpl_parts.specs.Versions.{rules_since}
 use Rattle.tpl_parts.specs.SeenClaims.{claim_of}
 use Rattle.tpl_parts.specs.SeenStart.{start_of}
 use Rattle.tpl_reader.specs.declared.document.Start as start
@@ -15,14 +14,13 @@ use Rattle.tpl_reader.specs.declared.shape.NamedRest.{NamedRest}
 use Rattle.tpl_reader.specs.declared.shape.Shaped.{Shaped}
 use Rattle.tpl_reader.specs.Begin.{StartValue}
 use Rattle.tpl_reader.specs.Shape.{Spelled}
-use Rattle.tpl_reader.specs.Trees.{trees_by}
 use Rattle.tpl_reader.specs.Document.{DocumentValue}
 
 abbrev pub value_of : start.Start → StartValue
 value_of s = record { inputs = s.inputs; request = map token_number s.request.items; fail = map site_number s.fail.items }
 
 abbrev pub doc_of : document.Document → DocumentValue
-doc_of d = record { version = d.version; graph = d.graph; claims = d.claims.items; names = map (λ n. option_map string_bytes n) d.names.items; certificate = trees_by (rules_since d.version) d.certificate d.wide; journal = string_bytes d.journal; start = option_map value_of d.start; ended = d.ended.items; times = option_map (λ v. v.items) d.times }
+doc_of d = record { version = d.version; graph = d.graph; claims = d.claims.items; names = map (λ n. option_map string_bytes n) d.names.items; certificate = d.certificate; journal = string_bytes d.journal; start = option_map value_of d.start; ended = d.ended.items; times = option_map (λ v. v.items) d.times }
 
 -- the document of this version with this draft, what stands beside it, and these times
 abbrev pub spelled_with : Version → Draft → NamedRest → Option (List ℕ) → Spelled

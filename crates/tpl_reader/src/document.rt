@@ -6,7 +6,7 @@ ghost use Rattle.tpl_reader.specs.Prelude.{doc_of, inputs_of};
 use tpl_graph::{Claim, Graph};
 use tpl_model::{Final, Inputs, SiteId, TaskId, TokenId};
 use tpl_parts::Version;
-use tpl_trees::{Certificate, WideCertificate};
+use tpl_trees::Certificate;
 
 /// Where a run starts.
 #[derive(Drop)]
@@ -30,10 +30,9 @@ pub struct Document {
     pub claims: Vec<Claim>,
     /// The names of the claims, one for each, as far as they have any; no two have the same.
     pub names: Vec<Option<String>>,
-    /// The trees of the certificate of a document of version 1 or 2, none in version 3. How many there are is not tested.
+    /// The trees of its certificate; only those of version 3 may speak of tokens and of winners. How many there are is
+    /// not tested.
     pub certificate: Certificate,
-    /// Those of version 3, which may speak of tokens and of winners; none before.
-    pub wide: WideCertificate,
     /// A journal, which is not read yet; empty where there is none.
     pub journal: String,
     /// Where a run starts, if that is said.

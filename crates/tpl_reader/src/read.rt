@@ -7,9 +7,9 @@ ghost use Rattle.tpl_graph.specs.Prelude.{Fits};
 ghost use Rattle.tpl_json.specs.Prelude.{Yields, view};
 ghost use Rattle.tpl_model.specs.Prelude.{is_task};
 ghost use Rattle.tpl_parts.specs.Prelude.{claim_of, rules_since, start_of};
-ghost use Rattle.tpl_reader.specs.Prelude.{HasNoOthers, IsDocument, IsFault, IsRefused, Reads, Spells, begin_in, claims_for, doc_of, ends_in, journal_in, longest, most_claims, spelled_of, spelled_with, trees_by, trees_in, value_of};
+ghost use Rattle.tpl_reader.specs.Prelude.{IsDocument, IsFault, IsRefused, Reads, Spells, begin_in, claims_for, doc_of, ends_in, journal_in, longest, most_claims, spelled_of, spelled_with, trees_in, value_of};
 ghost use Rattle.tpl_reader.specs.declared.fault.ReadFault.TheVariants.{Memory};
-ghost use Rattle.tpl_trees.specs.Prelude.{IsWithinLimits, IsWithinWideLimits};
+ghost use Rattle.tpl_trees.specs.Prelude.{IsWithinLimits};
 
 use crate::asked::claims_in;
 use crate::begin::begin_in;
@@ -19,14 +19,14 @@ use crate::ends::ends_in;
 use crate::fault::{ClaimFault, ReadFault};
 use crate::hear::{Hear, Misread, Unheard};
 use crate::shape::{NamedRest, Shaped, shape_of};
-use crate::trees::{Trees, trees_in};
+use crate::trees::trees_in;
 use json::{Scratch, Value};
 use std::alloc::Global;
 use tpl_graph::{Claim, Graph};
 use tpl_json::{Miss, NotRead, value_from};
 use tpl_model::{Final, MOST_CLAIMS, MOST_EARLY_CLAIMS, TaskId};
 use tpl_parts::{NamedClaim, Version};
-use tpl_trees::{Certificate, WideCertificate};
+use tpl_trees::{Certificate, Tree};
 
 /// The most bytes of a document (this program's own limit).
 pub const LONGEST: usize = 16_777_216;
@@ -93,7 +93,7 @@ fn names_of(alloc: Global, claims: &[NamedClaim]) -> Result<Vec<Option<String>>,
 struct Rest {
     claims: Vec<Claim>,
     names: Vec<Option<String>>,
-    trees: Trees,
+    trees: Vec<Tree>,
     journal: String,
     start: Option<Start>,
     ended: Vec<(TaskId, Final)>,
@@ -111,11 +111,8 @@ fn rest_of(
     ensures fits { IfOk result (λ r. All (Fits graph.now.graph) r.claims.items) }
     ensures trees { IfOk result (λ r. trees_in (rules_since version) graph.now.names
         (map view named.now.certificate.now)
-        ≡ Ok (trees_by (rules_since version) r.trees.plain.items r.trees.wide.items)) }
-    ensures others { IfOk result (λ r. HasNoOthers (rules_since version) r.trees.plain.items
-        r.trees.wide.items) }
-    ensures plain { IfOk result (λ r. All IsWithinLimits r.trees.plain.items) }
-    ensures wide { IfOk result (λ r. All IsWithinWideLimits r.trees.wide.items) }
+        ≡ Ok r.trees.items) }
+    ensures limits { IfOk result (λ r. All IsWithinLimits r.trees.items) }
     ensures journal { IfOk result (λ r. string_bytes r.journal
         ≡ journal_in version named.now.journal.now) }
     ensures start { IfOk result (λ r. begin_in graph.now (option_map start_of named.now.start)
@@ -147,7 +144,6 @@ fn rest_of(
 fn document_of(alloc: Global, shaped: Shaped) -> Result<Document, ReadFault>
     ensures ok { IfOk result (λ d. IsDocument (spelled_of shaped.entry) (doc_of d)) }
     ensures claims { IfOk result (λ d. All (Fits d.graph.graph) d.claims.items) }
-    ensures others { IfOk result (λ d. HasNoOthers (rules_since d.version) d.certificate d.wide) }
     ensures trees { IfOk result (λ d. All IsWithinLimits d.certificate) }
     ensures ended { IfOk result (λ d. All (λ said. is_task d.graph.graph said.0.0) d.ended.items) }
     ensures err { IfErr result (IsRefused (spelled_of shaped.entry)) }
@@ -159,8 +155,7 @@ fn document_of(alloc: Global, shaped: Shaped) -> Result<Document, ReadFault>
         graph,
         claims: rest.claims,
         names: rest.names,
-        certificate: Certificate::new(rest.trees.plain),
-        wide: WideCertificate::new(rest.trees.wide),
+        certificate: Certificate::new(rest.trees),
         journal: rest.journal,
         start: rest.start,
         ended: rest.ended,
@@ -180,7 +175,6 @@ fn document_from(alloc: Global, value: &Value<'_>) -> Result<Document, ReadFault
     ensures ok { IfOk result (λ d. (bytes : List ℕ) → length bytes ≤ longest
         → Reads bytes (view value.now) → Spells bytes (doc_of d)) }
     ensures claims { IfOk result (λ d. All (Fits d.graph.graph) d.claims.items) }
-    ensures others { IfOk result (λ d. HasNoOthers (rules_since d.version) d.certificate d.wide) }
     ensures trees { IfOk result (λ d. All IsWithinLimits d.certificate) }
     ensures ended { IfOk result (λ d. All (λ said. is_task d.graph.graph said.0.0) d.ended.items) }
     ensures err { IfErr result (λ e. (bytes : List ℕ) → length bytes ≤ longest
@@ -196,7 +190,6 @@ fn document_from(alloc: Global, value: &Value<'_>) -> Result<Document, ReadFault
 pub fn read_document(alloc: Global, bytes: &[u8]) -> Result<Document, ReadFault>
     ensures ok { IfOk result (λ d. Spells bytes.now (doc_of d)) }
     ensures claims { IfOk result (λ d. All (Fits d.graph.graph) d.claims.items) }
-    ensures others { IfOk result (λ d. HasNoOthers (rules_since d.version) d.certificate d.wide) }
     ensures trees { IfOk result (λ d. All IsWithinLimits d.certificate) }
     ensures ended { IfOk result (λ d. All (λ said. is_task d.graph.graph said.0.0) d.ended.items) }
     ensures err { IfErr result (IsFault bytes.now) }
@@ -215,7 +208,6 @@ pub fn read_document_heard<H: Hear>(
 ) -> Result<Document, Misread>
     ensures ok { IfOk result (λ d. Spells bytes.now (doc_of d)) }
     ensures claims { IfOk result (λ d. All (Fits d.graph.graph) d.claims.items) }
-    ensures others { IfOk result (λ d. HasNoOthers (rules_since d.version) d.certificate d.wide) }
     ensures trees { IfOk result (λ d. All IsWithinLimits d.certificate) }
     ensures ended { IfOk result (λ d. All (λ said. is_task d.graph.graph said.0.0) d.ended.items) }
     ensures err { IfErr result (λ misread. IsFault bytes.now misread.fault) }

@@ -7,19 +7,19 @@ use tpl_causes::name;
 use tpl_graph::{Graph, Role};
 use tpl_model::{RuleSet, TaskId};
 use tpl_reader::Document;
-use tpl_trees::{Node, Row, Tree, WideNode, WideRow, WideTree};
+use tpl_trees::{Node, Row, Tree};
 
-/// The rows of a leaf; since version 3 they speak of tokens too, or are left out.
+/// The rows of a leaf by the rules; by those with tokens they speak of tokens too, or are left out.
 #[derive(Clone, Copy)]
 pub(crate) enum Rows<'d> {
-    Plain(&'d [Row]),
-    Wide(&'d [WideRow]),
+    Said(RuleSet, &'d [Row]),
     Least,
 }
 
 /// What stands in a tree: the leaves in their order, and its splits on winners.
 #[derive(Drop)]
 pub(crate) struct Parts<'d> {
+    rules: RuleSet,
     leaves: Vec<Rows<'d>>,
     winners: Vec<(TaskId, TaskId)>,
 }
@@ -28,75 +28,54 @@ impl<'d> Rows<'d> {
     /// How many there are; none where they are left out.
     pub(crate) fn count(self) -> Option<usize> {
         match self {
-            Rows::Plain(rows) => Some(rows.len()),
-            Rows::Wide(rows) => Some(rows.len()),
+            Rows::Said(_, rows) => Some(rows.len()),
             Rows::Least => None,
         }
     }
 
-    /// What the row of the task says besides of its tokens.
+    /// What the row of the task says.
     fn row(self, task: TaskId) -> Option<&'d Row> {
         match self {
-            Rows::Plain(rows) => rows.get(task.0 as usize),
-            Rows::Wide(rows) => match rows.get(task.0 as usize) {
-                Some(row) => Some(row.row()),
-                None => None,
-            },
+            Rows::Said(_, rows) => rows.get(task.0 as usize),
             Rows::Least => None,
         }
     }
 
-    /// What the row of the task says of tokens; nothing where the graph has none, or rows don't speak of them.
-    fn tokens_text(self, alloc: Global, graph: &Graph, task: TaskId) -> Said {
+    /// What a row says of tokens; nothing where the graph has none, or rows don't speak of them.
+    fn tokens_text(self, alloc: Global, graph: &Graph, row: &Row) -> Said {
         match self {
-            Rows::Wide(rows) if graph.token_count() > 0 => match rows.get(task.0 as usize) {
-                Some(row) => {
-                    let asked = tokens_text(alloc, graph, row.asked())?;
-                    let asks = tokens_text(alloc, graph, row.asks())?;
-                    format!(in alloc; "; asked {asked}; asks {asks}")
-                }
-                None => Ok(String::new(alloc)),
-            },
+            Rows::Said(RuleSet::WithTokens, _) if graph.token_count() > 0 => {
+                let asked = tokens_text(alloc, graph, row.asked())?;
+                let asks = tokens_text(alloc, graph, row.asks())?;
+                format!(in alloc; "; asked {asked}; asks {asks}")
+            }
             _ => Ok(String::new(alloc)),
         }
     }
 }
 
-/// Adds the leaves of a tree.
-fn add_plain<'d>(parts: &mut Parts<'d>, tree: &'d Tree) -> Result<(), AllocError> {
+/// Adds the leaves and the winners of a tree.
+fn add_tree<'d>(parts: &mut Parts<'d>, tree: &'d Tree) -> Result<(), AllocError> {
     match tree.node() {
         Node::SplitInput(_, on_true, on_false) => {
-            add_plain(parts, on_true)?;
-            add_plain(parts, on_false)
+            add_tree(parts, on_true)?;
+            add_tree(parts, on_false)
         }
         Node::SplitEnd(_, ran, canceled, faulted) => {
-            add_plain(parts, ran)?;
-            add_plain(parts, canceled)?;
-            add_plain(parts, faulted)
+            add_tree(parts, ran)?;
+            add_tree(parts, canceled)?;
+            add_tree(parts, faulted)
         }
-        Node::Leaf(rows) => Ok(parts.leaves.push(Rows::Plain(rows.as_slice()))?),
-    }
-}
-
-/// Adds the leaves and the winners of a tree of version 3.
-fn add_wide<'d>(parts: &mut Parts<'d>, tree: &'d WideTree) -> Result<(), AllocError> {
-    match tree.node() {
-        WideNode::SplitInput(_, on_true, on_false) => {
-            add_wide(parts, on_true)?;
-            add_wide(parts, on_false)
-        }
-        WideNode::SplitEnd(_, ran, canceled, faulted) => {
-            add_wide(parts, ran)?;
-            add_wide(parts, canceled)?;
-            add_wide(parts, faulted)
-        }
-        WideNode::SplitWinner(task, argument, on_yes, on_no) => {
+        Node::SplitWinner(task, argument, on_yes, on_no) => {
             parts.winners.push((*task, *argument))?;
-            add_wide(parts, on_yes)?;
-            add_wide(parts, on_no)
+            add_tree(parts, on_yes)?;
+            add_tree(parts, on_no)
         }
-        WideNode::Leaf(rows) => Ok(parts.leaves.push(Rows::Wide(rows.as_slice()))?),
-        WideNode::Least => Ok(parts.leaves.push(Rows::Least)?),
+        Node::Leaf(rows) => {
+            let rules = parts.rules;
+            Ok(parts.leaves.push(Rows::Said(rules, rows.as_slice()))?)
+        }
+        Node::Least => Ok(parts.leaves.push(Rows::Least)?),
     }
 }
 
@@ -109,14 +88,12 @@ impl<'d> Parts<'d> {
     ) -> Result<Parts<'d>, AllocError> {
         let index = claim.saturating_sub(1);
         let mut parts = Parts {
+            rules: document.version.rules(),
             leaves: Vec::new(alloc),
             winners: Vec::new(alloc),
         };
         if let Some(tree) = document.certificate.trees().get(index) {
-            add_plain(&mut parts, tree)?;
-        }
-        if let Some(tree) = document.wide.trees().get(index) {
-            add_wide(&mut parts, tree)?;
+            add_tree(&mut parts, tree)?;
         }
         Ok(parts)
     }
@@ -130,7 +107,7 @@ impl<'d> Parts<'d> {
     pub(crate) fn leaf(&self, number: usize) -> Rows<'d> {
         match self.leaves.get(number.saturating_sub(1)) {
             Some(rows) => *rows,
-            None => Rows::Plain(&[]),
+            None => Rows::Said(self.rules, &[]),
         }
     }
 
@@ -151,10 +128,7 @@ impl<'d> Parts<'d> {
 
 /// How many trees the certificate has.
 pub(crate) fn tree_count(document: &Document) -> usize {
-    match document.version.rules() {
-        RuleSet::Narrow => document.certificate.trees().len(),
-        RuleSet::Wide => document.wide.trees().len(),
-    }
+    document.certificate.trees().len()
 }
 
 /// What the row of the task says, as a line.
@@ -162,7 +136,8 @@ pub(crate) fn row_text(alloc: Global, graph: &Graph, rows: Rows<'_>, task: TaskI
     let Some(row) = rows.row(task) else {
         return Ok(String::new(alloc));
     };
-    let tokens = rows.tokens_text(alloc, graph, task)?;
+    let tokens = rows.tokens_text(alloc, graph, row)?;
+    let row = row.row();
     let task = name(graph, task);
     let ends = ends_text(row.ends());
     let runs = if row.runs() { "runs" } else { "doesn't run" };

@@ -119,8 +119,8 @@ fn token_sentence(rule: Rule, role: Option<Role<'_>>) -> &'static str {
 /// What the rule of the document's version asks of a task.
 fn sentence_of(document: &Document, rule: Rule, role: Option<Role<'_>>) -> &'static str {
     match (document.version.rules(), rule) {
-        (RuleSet::Narrow, _) => sentence(rule, role),
-        (RuleSet::Wide, Rule::K6) => CHAIN_BEHIND_WINNER,
+        (RuleSet::WithoutTokens, _) => sentence(rule, role),
+        (RuleSet::WithTokens, Rule::K6) => CHAIN_BEHIND_WINNER,
         _ if document.graph.token_count() > 0 => token_sentence(rule, role),
         _ => sentence(rule, role),
     }

@@ -4,7 +4,7 @@ use Rattle.tpl_model.specs.declared.status.Actor.{Actor}
 use Rattle.tpl_model.specs.declared.status.Label.{Label}
 use Rattle.tpl_model.specs.declared.status.Status.{Status}
 use Rattle.tpl_model.specs.declared.rule_set.RuleSet.{RuleSet}
-use Rattle.tpl_model.specs.WiderRules.{WideTree}
+use Rattle.tpl_model.specs.Certificate.{Tree}
 use Rattle.tpl_model.specs.Claims.{Claim, Holds}
 use Rattle.tpl_model.specs.declared.event.Event.{Event}
 use Rattle.tpl_model.specs.Graph.{TaskGraph}
@@ -82,7 +82,7 @@ pub record IsTold (g : TaskGraph) (v : List Bool) (h : List Event) (said : ToldV
 -- What a session of this graph with these inputs leaves where it is closed well: it has kept all, and each claim of a certificate that is accepted, by whichever rules, holds. The list of each seat that was handed in is what its actor did, what was last reported to it is true there, and nobody else did anything. What is told of the run is so.
 pub record IsClosed {K : Type 0} (n : Named) (v : List Bool) (handed : List SeatView) (journal : List Event) (receipts : List (Receipt K)) (sites : List ℕ) (said : ToldView) : Type 0 where
   pub whole : IsWhole n v journal receipts sites
-  pub claims : (rules : RuleSet) (claims : List Claim) (certificate : List WideTree) → AcceptsBy rules n.graph claims certificate → Each (λ claim. Holds n.graph claim v (reverse journal)) claims
+  pub claims : (rules : RuleSet) (claims : List Claim) (certificate : List Tree) → AcceptsBy rules n.graph claims certificate → Each (λ claim. Holds n.graph claim v (reverse journal)) claims
   pub own : AllOwn handed journal
   pub last : AllLast n.graph v handed journal
   pub seats : All (λ e. IsSeat e.actor) journal

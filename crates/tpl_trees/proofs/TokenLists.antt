@@ -1,13 +1,14 @@
 -- Sets of tokens as lists.
-use Rattle.std.proofs.Common.{◌≡◌, ℕ, zero, suc, ◌≤◌, List, Bool, inl, inr, false, refl, sym, ◌∙◌, arith}
-use Rattle.std.proofs.lemmas.Bool.{cases_lt}
+use Rattle.std.proofs.Common.{◌≡◌, ℕ, zero, suc, ◌≤◌, List, [], ◌∷◌, Bool, inl, inr, true, false, if◌then◌else◌, refl, sym, ap, ◌∙◌, arith}
+use Rattle.std.proofs.lemmas.Bool.{cases_Bool, cases_lt}
 use Rattle.tpl_model.proofs.SetLists.{mem-passing_from, passing_from-mem}
 use Rattle.tpl_model.proofs.Truths.{same_tests, true_false}
 use Rattle.tpl_model.specs.Members.{mem}
 use Rattle.tpl_model.specs.TaskSet.{passing_from}
 use Rattle.tpl_paths.specs.declared.token_set.TokenSet.{TokenSet}
-use Rattle.tpl_paths.specs.TokenSet.{has_token}
-use Rattle.tpl_trees.specs.WideCoding.{tokens_in}
+use Rattle.tpl_paths.proofs.TokenBits.{none_set}
+use Rattle.tpl_paths.specs.TokenSet.{has_token, no_tokens}
+use Rattle.tpl_trees.specs.Coding.{tokens_in}
 use Rattle.tpl_trees.specs.Sets.{as_set, IsSet}
 
 passing_same : (p q : ℕ → Bool) (low n : ℕ) → ((x : ℕ) → p x ≡ q x) → passing_from p low n ≡ passing_from q low n
@@ -28,3 +29,20 @@ mem-tokens_in s limit k =
 pub token_set : (s : TokenSet) → ((k : ℕ) → 32 ≤ k → has_token s k ≡ false) → IsSet 32 (tokens_in s)
 unfolding IsSet
 token_set s limit = tokens_are (tokens_in s) s (λ k. sym (mem-tokens_in s limit k))
+
+none_passing : (test : ℕ → Bool) → ((x : ℕ) → test x ≡ false) → (low n : ℕ) → passing_from test low n ≡ []
+none_passing test none low zero = refl
+none_passing test none low (suc n) = ap (λ b. if b then (low ∷ passing_from test (suc low) n) else passing_from test (suc low) n) (none low) ∙ none_passing test none (suc low) n
+
+pub no_tokens_in : tokens_in no_tokens ≡ []
+unfolding tokens_in
+no_tokens_in = none_passing (has_token no_tokens) none_set 0 32
+
+-- a set of tokens within the empty one
+pub none_within : (s none : TokenSet) → none ≡ no_tokens → ((k : ℕ) → has_token s k ≡ true → has_token none k ≡ true) → tokens_in s ≡ []
+unfolding tokens_in
+none_within s none e within =
+    none_passing (has_token s) (λ k. elim (cases_Bool (has_token s k)) [ inl has ↦ true_false (sym (within k has) ∙ (ap (λ z. has_token z k) e ∙ none_set k)) | inr q ↦ q ]) 0 32
+
+pub within_none : (s none : TokenSet) → ((k : ℕ) → 32 ≤ k → has_token s k ≡ false) → tokens_in s ≡ [] → (k : ℕ) → has_token s k ≡ true → has_token none k ≡ true
+within_none s none limit e k has = true_false (sym has ∙ (sym (mem-tokens_in s limit k) ∙ ap (mem k) e))

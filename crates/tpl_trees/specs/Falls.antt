@@ -10,4 +10,6 @@ use Rattle.tpl_trees.specs.Heights.{height}
 pub deepest_le-height : (n : Node) → deep-Node n ≤ height (node_of n)
 deepest_le-height (node.SplitInput i on_true on_false) = omega arith
 deepest_le-height (node.SplitEnd t ran canceled faulted) = omega arith
+deepest_le-height (node.SplitWinner n x on_yes on_no) = omega arith
 deepest_le-height (node.Leaf rows) = omega arith
+deepest_le-height node.Least = omega arith

@@ -3,8 +3,4 @@ pub mod Heights
 pub mod Coding
 pub mod Trees
 pub mod Falls
-pub mod WideCoding
-pub mod WideTrees
-pub mod WideHeights
-pub mod WideFalls
 pub mod Prelude

@@ -1,93 +1,103 @@
 //! Rows of certificate trees.
 
-ghost use Rattle.std.specs.Prelude.{◌≡◌, map};
-ghost use Rattle.tpl_draft.specs.Prelude.{task_number};
+ghost use Rattle.std.specs.Prelude.{◌≡◌, ◌↔◌, ℕ, IsTrue, []};
+ghost use Rattle.tpl_model.specs.Prelude.{mem};
+ghost use Rattle.tpl_paths.specs.Prelude.{has_token};
+ghost use Rattle.tpl_trees.specs.Prelude.{HasTokenSets, tokens_in};
 
+use crate::plain_row::PlainRow;
 use std::marker::Model;
-use tpl_model::{Finals, TaskId, TaskSet};
+use tpl_paths::TokenSet;
 
-/// What a leaf says of one task. Contracts see it with sets and lists of the tasks' numbers.
+/// What a leaf says of one task, and of the tokens that are requested when it begins and when it has ended. Contracts
+/// see it with lists of the tokens' numbers.
 #[derive(Drop)]
 pub struct Row {
-    ends: Finals,
-    runs: bool,
-    before: TaskSet,
-    past: TaskSet,
-    chain: Vec<TaskId>,
+    row: PlainRow,
+    asked: TokenSet,
+    asks: TokenSet,
 }
 
 impl Model for Row {
-    ghost use Rattle.std.specs.Prelude.{map};
     ghost use Rattle.tpl_model.specs.Certificate as certificate;
-    ghost use Rattle.tpl_trees.specs.Coding.{row_code};
+    ghost use Rattle.tpl_trees.specs.Coding.{row_code, tokens_in};
 
     ghost Value = { certificate.Row };
 
     ghost coded = { row_code };
 
-    ghost use Rattle.tpl_draft.specs.Ids.{task_number};
-
     ghost view = { λ r. record {
-      ends = r.ends;
-      runs = r.runs;
-      before = r.before;
-      past = r.past;
-      chain = map task_number r.chain.items;
+      row = r.row;
+      asked = tokens_in r.asked;
+      asks = tokens_in r.asks;
     } };
 }
 
 impl Row {
-    /// A row: how the task may end, whether it may begin, the tasks that are settled when it begins, those that are
-    /// settled when it has ended, and the tasks that take its exception over, one after another, the last of which
-    /// reads it (none where that isn't shown).
-    pub fn new(ends: Finals, runs: bool, before: TaskSet, past: TaskSet, chain: Vec<TaskId>) -> Row
-        ensures ends { result.ends ≡ ends }
-        ensures runs { result.runs ≡ runs }
-        ensures before { result.before ≡ before }
-        ensures past { result.past ≡ past }
-        ensures chain { result.chain ≡ map task_number chain.items }
+    /// A row, with the tokens that are requested when its task begins, and those that are when it has ended.
+    pub fn new(row: PlainRow, asked: TokenSet, asks: TokenSet) -> Row
+        ensures row { result.row ≡ row }
+        ensures asked { result.asked ≡ tokens_in asked }
+        ensures asks { result.asks ≡ tokens_in asks }
+    {
+        Row { row, asked, asks }
+    }
+
+    /// The row that says nothing of tokens besides.
+    pub fn without_tokens(row: PlainRow) -> Row
+        ensures row { result.row ≡ row }
+        ensures asked { result.asked ≡ [] }
+        ensures asks { result.asks ≡ [] }
     {
         Row {
-            ends,
-            runs,
-            before,
-            past,
-            chain,
+            row,
+            asked: TokenSet::empty(),
+            asks: TokenSet::empty(),
         }
     }
 
-    /// How the task may end.
-    pub fn ends(&self) -> Finals
-        ensures { result ≡ self.now.ends }
+    /// Whether it says nothing of tokens.
+    pub fn is_plain(&self) -> bool
+        ensures { IsTrue result ↔ ((self.now.asked ≡ []) × (self.now.asks ≡ [])) }
     {
-        self.ends
+        let (asked, asks) = (self.asked, self.asks);
+        let none = TokenSet::empty();
+        asked.limit_law();
+        asks.limit_law();
+        asked.is_subset(none) && asks.is_subset(none)
     }
 
-    /// Whether it may begin.
-    pub fn runs(&self) -> bool
-        ensures { result ≡ self.now.runs }
+    /// Its tokens are sets: a caller that needs it calls this, which does nothing.
+    pub fn sets_law(&self)
+        ensures { HasTokenSets self.now }
     {
-        self.runs
+        let (asked, asks) = (self.asked, self.asks);
+        asked.limit_law();
+        asks.limit_law();
     }
 
-    /// The tasks that are settled when it begins.
-    pub fn before(&self) -> &TaskSet
-        ensures { result.now ≡ self.now.before }
+    /// What it says besides of its task.
+    pub fn row(&self) -> &PlainRow
+        ensures { result.now ≡ self.now.row }
     {
-        &self.before
+        &self.row
     }
 
-    /// The tasks that are settled when it has ended.
-    pub fn past(&self) -> &TaskSet
-        ensures { result.now ≡ self.now.past }
+    /// The tokens that are requested when its task begins.
+    pub fn asked(&self) -> TokenSet
+        ensures members { (k : ℕ) → has_token result k ≡ mem k self.now.asked }
+        ensures list { tokens_in result ≡ self.now.asked }
     {
-        &self.past
+        self.asked.limit_law();
+        self.asked
     }
 
-    /// The tasks that take its exception over, one after another; the last of them reads it.
-    pub fn chain(&self) -> &[TaskId]
-        ensures { map task_number result.now ≡ self.now.chain }
+    /// The tokens that are requested when it has ended.
+    pub fn asks(&self) -> TokenSet
+        ensures members { (k : ℕ) → has_token result k ≡ mem k self.now.asks }
+        ensures list { tokens_in result ≡ self.now.asks }
     {
-        self.chain.as_slice()
+        self.asks.limit_law();
+        self.asks
     }
 }

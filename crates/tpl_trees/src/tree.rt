@@ -22,8 +22,12 @@ pub enum Node {
     SplitInput(InputId, Box<Tree>, Box<Tree>),
     /// The trees for a task that ran to completion, that was canceled, and that faulted.
     SplitEnd(TaskId, Box<Tree>, Box<Tree>, Box<Tree>),
+    /// The trees for a WhenAny task that this argument wins, and that another one does.
+    SplitWinner(TaskId, TaskId, Box<Tree>, Box<Tree>),
     /// A row for each task, in declared order.
     Leaf(Vec<Row>),
+    /// No rows: the check works out the least ones that the splits leave.
+    Least,
 }
 
 impl Model for Tree {

@@ -22,9 +22,9 @@ use Rattle.tpl_verdicts.specs.declared.style.Style.{Style}
 use Rattle.tpl_verdicts.specs.Answer.{IsVerified, Judged, Verified, Verifies}
 
 -- the answer to bytes that spell no document
-pub unread : (depth : ℕ) (style : Style) (bytes : List ℕ) (r : Result Answered AllocError) → IfOk r (λ it. NoDocument bytes it.answer.exit (string_bytes it.answer.text)) → IfOk r (λ it. Verifies depth style bytes it.answer.exit (string_bytes it.answer.text))
-unread depth style bytes (Ok it) wrong = inr wrong
-unread depth style bytes (Err e) wrong = tt
+pub unread : (depth runs : ℕ) (style : Style) (bytes : List ℕ) (r : Result Answered AllocError) → IfOk r (λ it. NoDocument bytes it.answer.exit (string_bytes it.answer.text)) → IfOk r (λ it. Verifies depth runs style bytes it.answer.exit (string_bytes it.answer.text))
+unread depth runs style bytes (Ok it) wrong = inr wrong
+unread depth runs style bytes (Err e) wrong = tt
 
 -- what is said where no document is answered is said for each command
 says_all : (answers : Answers) (input : List ℕ) (exit : Exit) (text : List ℕ) → Says NoAnswer input exit text → Says answers input exit text
@@ -42,14 +42,14 @@ unanswered answers remaining from_old from_new contents old new result (inl it) 
 unanswered answers remaining from_old from_new contents old new result (inr failed) = inr failed
 
 -- a yes or no answers a document
-of_document : (depth : ℕ) (style : Style) (bytes text : List ℕ) (exit : Exit) → IsYesOrNo exit → Verifies depth style bytes exit text → (doc : DocumentValue) × Spells bytes doc × IsVerified depth style bytes doc exit text
-of_document depth style bytes text exit done (inl it) = it
-of_document depth style bytes text exit done (inr none) = absurd (unreadable≢ exit done none.2)
+of_document : (depth runs : ℕ) (style : Style) (bytes text : List ℕ) (exit : Exit) → IsYesOrNo exit → Verifies depth runs style bytes exit text → (doc : DocumentValue) × Spells bytes doc × IsVerified depth runs style bytes doc exit text
+of_document depth runs style bytes text exit done (inl it) = it
+of_document depth runs style bytes text exit done (inr none) = absurd (unreadable≢ exit done none.2)
 
-pub done_verifies : {R W : Type 0} (remaining : R → Option (List ℕ)) (from_old from_new : Counting R) (contents : W → Option (List ℕ)) (old new : Counting W) (depth : ℕ) (style : Style) (result : Exit) → Responds (Verifies depth style) remaining from_old from_new contents old new result → IsYesOrNo result → Verified remaining from_old from_new contents old new depth style result
-done_verifies remaining from_old from_new contents old new depth style result responds done =
-    let s = said remaining from_old from_new contents old new result (Verifies depth style) done responds in
-    let d = of_document depth style s.input s.text result done s.is in
+pub done_verifies : {R W : Type 0} (remaining : R → Option (List ℕ)) (from_old from_new : Counting R) (contents : W → Option (List ℕ)) (old new : Counting W) (depth runs : ℕ) (style : Style) (result : Exit) → Responds (Verifies depth runs style) remaining from_old from_new contents old new result → IsYesOrNo result → Verified remaining from_old from_new contents old new depth runs style result
+done_verifies remaining from_old from_new contents old new depth runs style result responds done =
+    let s = said remaining from_old from_new contents old new result (Verifies depth runs style) done responds in
+    let d = of_document depth runs style s.input s.text result done s.is in
     record { input = s.input; reads = s.reads; doc = d.0; spelled = d.1; text = s.text; is = d.2; writes = s.writes }
 
 -- ---- the verdicts, whatever they were found by
@@ -65,8 +65,8 @@ all_so rules g [] (v ∷ verdicts) all = absurd all
 all_so rules g (claim ∷ claims) [] all = absurd all
 all_so rules g (claim ∷ claims) (v ∷ verdicts) all = (is_so rules g claim v all.0, all_so rules g claims verdicts all.1)
 
-pub verified_judges : {R W : Type 0} (remaining : R → Option (List ℕ)) (from_old from_new : Counting R) (contents : W → Option (List ℕ)) (old new : Counting W) (depth : ℕ) (style : Style) (result : Exit) → Verified remaining from_old from_new contents old new depth style result → Judged remaining from_old from_new contents old new style result
-verified_judges remaining from_old from_new contents old new depth style result told = record {
+pub verified_judges : {R W : Type 0} (remaining : R → Option (List ℕ)) (from_old from_new : Counting R) (contents : W → Option (List ℕ)) (old new : Counting W) (depth runs : ℕ) (style : Style) (result : Exit) → Verified remaining from_old from_new contents old new depth runs style result → Judged remaining from_old from_new contents old new style result
+verified_judges remaining from_old from_new contents old new depth runs style result told = record {
   input = told.input;
   reads = told.reads;
   graph = told.doc.graph;

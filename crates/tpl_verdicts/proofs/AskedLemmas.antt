@@ -10,7 +10,7 @@ use Rattle.tpl_model.specs.declared.rule_set.RuleSet.{RuleSet}
 use Rattle.tpl_model.specs.Claims.{Claim}
 use Rattle.tpl_draft.specs.Named.{Named}
 use Rattle.tpl_verify.specs.declared.verdict.Verdict.{Verdict}
-use Rattle.tpl_verify.specs.Verdicts.{IsShallow, IsVerdict}
+use Rattle.tpl_verify.specs.Verdicts.{IsVerdict, KeepsTo}
 use Rattle.tpl_verdicts.specs.declared.entry.Entry.{Entry}
 use Rattle.tpl_series.specs.Told.{IsNext}
 use Rattle.tpl_verdicts.specs.declared.asked.Asked.{Asked}
@@ -55,24 +55,24 @@ texts_snoc : (entries : List Entry) (entry : Entry) → flat_map entry_text (ent
 texts_snoc entries entry =
     flat_map-append entry_text entries (entry ∷ []) ∙ ap (λ z. flat_map entry_text entries ++ z) (append-nil (entry_text entry))
 
-module _ (rules : RuleSet) (depth : ℕ) (graph : Named) (claims : List Claim) (names : List (Option (List ℕ))) where
+module _ (rules : RuleSet) (depth runs : ℕ) (graph : Named) (claims : List Claim) (names : List (Option (List ℕ))) where
   -- nothing is told at first
-  pub first_none : AreFirst rules depth graph claims names [] []
+  pub first_none : AreFirst rules depth runs graph claims names [] []
   first_none = record {
     true_of = tt;
-    shallow = All-nil (IsShallow depth);
+    within = All-nil (KeepsTo depth runs);
     entries = [];
     are_entries = subst (λ (z : List Told). AreNumbered (IsEntry graph.names) 1 z []) (sym (told_none claims names)) tt;
     says = refl;
   }
 
-  pub first_more : (verdicts : List Verdict) (text : List ℕ) (claim : Claim) (v : Verdict) (entry : Entry) → slice_get claims (length verdicts) ≡ Some claim → IsVerdict rules graph.graph claim v → IsShallow depth v → IsEntry graph.names (length verdicts + 1) (told_there names (length verdicts) claim v) entry → AreFirst rules depth graph claims names verdicts text → AreFirst rules depth graph claims names (verdicts ++ v ∷ []) (text ++ entry_text entry)
-  first_more verdicts text claim v entry there is shallow is_entry first =
+  pub first_more : (verdicts : List Verdict) (text : List ℕ) (claim : Claim) (v : Verdict) (entry : Entry) → slice_get claims (length verdicts) ≡ Some claim → IsVerdict rules graph.graph claim v → KeepsTo depth runs v → IsEntry graph.names (length verdicts + 1) (told_there names (length verdicts) claim v) entry → AreFirst rules depth runs graph claims names verdicts text → AreFirst rules depth runs graph claims names (verdicts ++ v ∷ []) (text ++ entry_text entry)
+  first_more verdicts text claim v entry there is within is_entry first =
       let lt = slice_get_within claims (length verdicts) claim there in
       let long = told_length claims names verdicts (omega (arith, lt)) in
       record {
         true_of = zip_more (IsVerdict rules graph.graph) claims verdicts claim v there first.true_of is;
-        shallow = All-append (IsShallow depth) verdicts (v ∷ []) first.shallow (All-cons (IsShallow depth) v [] shallow (All-nil (IsShallow depth)));
+        within = All-append (KeepsTo depth runs) verdicts (v ∷ []) first.within (All-cons (KeepsTo depth runs) v [] within (All-nil (KeepsTo depth runs)));
         entries = first.entries ++ entry ∷ [];
         are_entries = subst (λ (z : List Told). AreNumbered (IsEntry graph.names) 1 z (first.entries ++ entry ∷ [])) (sym (told_snoc claims names verdicts claim v there))
             (numbered_snoc (IsEntry graph.names) 1 (length verdicts + 1) (told claims names verdicts) first.entries (told_there names (length verdicts) claim v) entry (omega (arith, long)) first.are_entries is_entry);
@@ -80,7 +80,7 @@ module _ (rules : RuleSet) (depth : ℕ) (graph : Named) (claims : List Claim) (
       }
 
   -- there is a verdict on each claim
-  pub all_true : (verdicts : List Verdict) (text : List ℕ) → length verdicts ≡ length claims → AreFirst rules depth graph claims names verdicts text → AllZip (IsVerdict rules graph.graph) claims verdicts
+  pub all_true : (verdicts : List Verdict) (text : List ℕ) → length verdicts ≡ length claims → AreFirst rules depth runs graph claims names verdicts text → AllZip (IsVerdict rules graph.graph) claims verdicts
   all_true verdicts text same first =
       subst (λ (z : List Claim). AllZip (IsVerdict rules graph.graph) z verdicts) (take_all (length verdicts) claims (omega (arith, same))) first.true_of
 
@@ -90,8 +90,8 @@ pub text_next : (asked : Asked) (place : ℕ) (v : Verdict) (claim : Claim) (ent
 text_next asked place v claim entry there one is_entry values before at first =
     let graph = asked.graph.now in
     let names = names_of asked in
-    first_more asked.searched.rules asked.searched.depth graph asked.claims.now names values before claim v entry
+    first_more asked.searched.rules asked.searched.depth asked.searched.runs graph asked.claims.now names values before claim v entry
     (subst (λ (n : ℕ). slice_get asked.claims.now n ≡ Some claim) (sym at) there)
-    (one.true_of claim there) one.shallow
+    (one.true_of claim there) one.kept
     (subst (λ (n : ℕ). IsEntry graph.names (n + 1) (told_there names n claim v) entry) (sym at) is_entry)
     first

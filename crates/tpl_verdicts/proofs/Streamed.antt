@@ -33,13 +33,13 @@ puts_behind : {W : Type 0} (contents : W → Option (List ℕ)) (a b c : Countin
 puts_behind contents a b c xs ys exit result first (inl done) = inl (done.0, then_written contents a b c xs ys first done.1)
 puts_behind contents a b c xs ys exit result first (inr stop) = inr (stop.0, stops_behind contents a b c xs ys first stop.1)
 
-module _ {W : Type 0} (contents : W → Option (List ℕ)) (old told new : Counting W) (depth : ℕ) (bytes : List ℕ) (doc : DocumentValue) (result : Exit) where
+module _ {W : Type 0} (contents : W → Option (List ℕ)) (old told new : Counting W) (depth runs : ℕ) (bytes : List ℕ) (doc : DocumentValue) (result : Exit) where
   -- what the verdicts on the first claims of the document are
   abbrev First : List Verdict → List ℕ → Type 0
-  First = AreFirst (rules_of doc) depth doc.graph doc.claims doc.names
+  First = AreFirst (rules_of doc) depth runs doc.graph doc.claims doc.names
 
   -- each claim was told, and how many verdicts of each word there are was put
-  pub streamed_whole : (verdicts : List Verdict) → TellsAll First (length doc.claims) contents old told verdicts → PutsSums contents told new doc verdicts result → IsStreamed contents old new depth bytes doc result
+  pub streamed_whole : (verdicts : List Verdict) → TellsAll First (length doc.claims) contents old told verdicts → PutsSums contents told new doc verdicts result → IsStreamed contents old new depth runs bytes doc result
   streamed_whole verdicts all (inl put) =
       let lines = all.1.text in
       inl (
@@ -47,8 +47,8 @@ module _ {W : Type 0} (contents : W → Option (List ℕ)) (old told new : Count
         lines ++ sums_line verdicts,
         record {
           verdicts = verdicts;
-          true_of = all_true (rules_of doc) depth doc.graph doc.claims doc.names verdicts lines all.0 all.1.told;
-          shallow = all.1.told.shallow;
+          true_of = all_true (rules_of doc) depth runs doc.graph doc.claims doc.names verdicts lines all.0 all.1.told;
+          within = all.1.told.within;
           ends = put.1;
           sound = put.2;
           says = (all.1.told.entries, all.1.told.are_entries, ap (λ (z : List ℕ). z ++ sums_line verdicts) all.1.told.says);
@@ -63,7 +63,7 @@ module _ {W : Type 0} (contents : W → Option (List ℕ)) (old told new : Count
   })
 
   -- telling ended before the last claim
-  pub streamed_part : (why : Stop) → IsStopped First contents old told why → PutsStop contents told new why result → IsStreamed contents old new depth bytes doc result
+  pub streamed_part : (why : Stop) → IsStopped First contents old told why → PutsStop contents told new why result → IsStreamed contents old new depth runs bytes doc result
   streamed_part stop.Memory stopped put = inr (record {
     verdicts = stopped.0;
     lines = stopped.1.text;
@@ -82,48 +82,48 @@ module _ {W : Type 0} (contents : W → Option (List ℕ)) (old told new : Count
   })
 
   -- telling ended, and what stands behind was put
-  streamed_by : (r : Result (Vec Verdict Global) Stop) → MatchResult r (λ verdicts. TellsAll First (length doc.claims) contents old told verdicts.items) (IsStopped First contents old told) → MatchResult r (λ verdicts. PutsSums contents told new doc verdicts.items result) (λ why. PutsStop contents told new why result) → IsStreamed contents old new depth bytes doc result
+  streamed_by : (r : Result (Vec Verdict Global) Stop) → MatchResult r (λ verdicts. TellsAll First (length doc.claims) contents old told verdicts.items) (IsStopped First contents old told) → MatchResult r (λ verdicts. PutsSums contents told new doc verdicts.items result) (λ why. PutsStop contents told new why result) → IsStreamed contents old new depth runs bytes doc result
   streamed_by (Ok verdicts) all put = streamed_whole verdicts.items all put
   streamed_by (Err why) stopped put = streamed_part why stopped put
 
   -- the same, by rules, claims and names that are the document's
-  pub streamed : (rules : RuleSet) (claims : List Claim) (names : List (Option (List ℕ))) → rules ≡ rules_of doc → claims ≡ doc.claims → names ≡ doc.names → (r : Result (Vec Verdict Global) Stop) → MatchResult r (λ verdicts. TellsAll (AreFirst rules depth doc.graph claims names) (length claims) contents old told verdicts.items) (IsStopped (AreFirst rules depth doc.graph claims names) contents old told) → MatchResult r (λ verdicts. PutsSums contents told new doc verdicts.items result) (λ why. PutsStop contents told new why result) → IsStreamed contents old new depth bytes doc result
+  pub streamed : (rules : RuleSet) (claims : List Claim) (names : List (Option (List ℕ))) → rules ≡ rules_of doc → claims ≡ doc.claims → names ≡ doc.names → (r : Result (Vec Verdict Global) Stop) → MatchResult r (λ verdicts. TellsAll (AreFirst rules depth runs doc.graph claims names) (length claims) contents old told verdicts.items) (IsStopped (AreFirst rules depth runs doc.graph claims names) contents old told) → MatchResult r (λ verdicts. PutsSums contents told new doc verdicts.items result) (λ why. PutsStop contents told new why result) → IsStreamed contents old new depth runs bytes doc result
   streamed rules claims names of_rules of_claims of_names r telling put =
-      let Told : RuleSet → List Claim → List (Option (List ℕ)) → Type 0 = λ x y z. MatchResult r (λ verdicts. TellsAll (AreFirst x depth doc.graph y z) (length y) contents old told verdicts.items) (IsStopped (AreFirst x depth doc.graph y z) contents old told) in
+      let Told : RuleSet → List Claim → List (Option (List ℕ)) → Type 0 = λ x y z. MatchResult r (λ verdicts. TellsAll (AreFirst x depth runs doc.graph y z) (length y) contents old told verdicts.items) (IsStopped (AreFirst x depth runs doc.graph y z) contents old told) in
       streamed_by r (subst (λ z. Told (rules_of doc) doc.claims z) of_names (subst (λ y. Told (rules_of doc) y names) of_claims (subst (λ x. Told x claims names) of_rules telling))) put
 
 -- the answer to a document is one of those that say something of its bytes
-says_verified : (depth : ℕ) (bytes : List ℕ) (doc : DocumentValue) (exit : Exit) (text : List ℕ) → length bytes ≤ longest → Spells bytes doc → IsVerified depth Text bytes doc exit text → Says (Verifies depth Text) bytes exit text
-says_verified depth bytes doc Success text le spelled is = (le, inl (doc, spelled, is))
-says_verified depth bytes doc Failure text le spelled is = (le, inl (doc, spelled, is))
-says_verified depth bytes doc Usage text le spelled is = absurd is.ends
-says_verified depth bytes doc Unreadable text le spelled is = absurd is.ends
-says_verified depth bytes doc Memory text le spelled is = absurd is.ends
-says_verified depth bytes doc Device text le spelled is = absurd is.ends
-says_verified depth bytes doc Fault text le spelled is = absurd is.ends
+says_verified : (depth runs : ℕ) (bytes : List ℕ) (doc : DocumentValue) (exit : Exit) (text : List ℕ) → length bytes ≤ longest → Spells bytes doc → IsVerified depth runs Text bytes doc exit text → Says (Verifies depth runs Text) bytes exit text
+says_verified depth runs bytes doc Success text le spelled is = (le, inl (doc, spelled, is))
+says_verified depth runs bytes doc Failure text le spelled is = (le, inl (doc, spelled, is))
+says_verified depth runs bytes doc Usage text le spelled is = absurd is.ends
+says_verified depth runs bytes doc Unreadable text le spelled is = absurd is.ends
+says_verified depth runs bytes doc Memory text le spelled is = absurd is.ends
+says_verified depth runs bytes doc Device text le spelled is = absurd is.ends
+says_verified depth runs bytes doc Fault text le spelled is = absurd is.ends
 
-module _ {W : Type 0} (contents : W → Option (List ℕ)) (old new : Counting W) (depth : ℕ) (bytes : List ℕ) (result : Exit) where
+module _ {W : Type 0} (contents : W → Option (List ℕ)) (old new : Counting W) (depth runs : ℕ) (bytes : List ℕ) (result : Exit) where
   -- an answer as text was written, or it broke off
-  pub streamed_answers : (doc : DocumentValue) → length bytes ≤ longest → Spells bytes doc → IsStreamed contents old new depth bytes doc result → AnswersBytes contents old new depth Text bytes result
+  pub streamed_answers : (doc : DocumentValue) → length bytes ≤ longest → Spells bytes doc → IsStreamed contents old new depth runs bytes doc result → AnswersBytes contents old new depth runs Text bytes result
   streamed_answers doc le spelled (inl whole) =
-      inl (whole.0, whole.1, says_verified depth bytes doc whole.0 whole.1 le spelled whole.2, whole.3)
+      inl (whole.0, whole.1, says_verified depth runs bytes doc whole.0 whole.1 le spelled whole.2, whole.3)
   streamed_answers doc le spelled (inr broke) = inr (refl, doc, spelled, broke)
 
   -- an answer was written whole
-  pub put_answers : (style : Style) (r : Result Answered AllocError) → length bytes ≤ longest → IfOk r (λ it. Verifies depth style bytes it.answer.exit (string_bytes it.answer.text))
+  pub put_answers : (style : Style) (r : Result Answered AllocError) → length bytes ≤ longest → IfOk r (λ it. Verifies depth runs style bytes it.answer.exit (string_bytes it.answer.text))
       → MatchResult r (λ it. Puts contents old new it.answer.exit (string_bytes it.answer.text) result) (λ e. Puts contents old new Memory (codes "out of memory\n") result)
-      → AnswersBytes contents old new depth style bytes result
+      → AnswersBytes contents old new depth runs style bytes result
   put_answers style (Ok it) le is puts =
-      inl (it.answer.exit, string_bytes it.answer.text, says (Verifies depth style) bytes it.answer.exit (string_bytes it.answer.text) it.answer.verdict le is, puts)
+      inl (it.answer.exit, string_bytes it.answer.text, says (Verifies depth runs style) bytes it.answer.exit (string_bytes it.answer.text) it.answer.verdict le is, puts)
   put_answers style (Err e) le is puts = inl (Memory, codes "out of memory\n", refl, puts)
 
-module _ {R W : Type 0} (remaining : R → Option (List ℕ)) (from_old from_new : Counting R) (contents : W → Option (List ℕ)) (old new : Counting W) (depth : ℕ) (style : Style) (result : Exit) where
+module _ {R W : Type 0} (remaining : R → Option (List ℕ)) (from_old from_new : Counting R) (contents : W → Option (List ℕ)) (old new : Counting W) (depth runs : ℕ) (style : Style) (result : Exit) where
   -- what was read was answered
-  pub answers_stream : (read : Counting W) (input : List ℕ) → Reads remaining from_old from_new input → length input ≤ longest → read ≡ old → AnswersBytes contents read new depth style input result → Streams remaining from_old from_new contents old new depth style result
+  pub answers_stream : (read : Counting W) (input : List ℕ) → Reads remaining from_old from_new input → length input ≤ longest → read ≡ old → AnswersBytes contents read new depth runs style input result → Streams remaining from_old from_new contents old new depth runs style result
   answers_stream read input reads le same (inl said) =
       inl (inl (input, said.0, said.1, reads, said.2, subst (λ (w : Counting W). Puts contents w new said.0 said.1 result) same said.3))
   answers_stream read input reads le same (inr broke) =
-      inr (input, reads, le, broke.0, broke.1, broke.2, subst (λ (w : Counting W). BreaksOff contents w new depth broke.1 result) same broke.3)
+      inr (input, reads, le, broke.0, broke.1, broke.2, subst (λ (w : Counting W). BreaksOff contents w new depth runs broke.1 result) same broke.3)
 
   -- who is out of memory says neither yes nor no
   silent : (text : List ℕ) → IsYesOrNo result → Puts contents old new Memory text result → ⊥
@@ -132,8 +132,8 @@ module _ {R W : Type 0} (remaining : R → Option (List ℕ)) (from_old from_new
   silent text (inr ill) (inl put) = let other = put.0 in cc
   silent text (inr ill) (inr stop) = let other = stop.0 in cc
 
-  pub streams_verify : Streams remaining from_old from_new contents old new depth style result → IsYesOrNo result → Verified remaining from_old from_new contents old new depth style result
+  pub streams_verify : Streams remaining from_old from_new contents old new depth runs style result → IsYesOrNo result → Verified remaining from_old from_new contents old new depth runs style result
   streams_verify (inl responds) done =
-      done_verifies remaining from_old from_new contents old new depth style result responds done
+      done_verifies remaining from_old from_new contents old new depth runs style result responds done
   streams_verify (inr broke) done =
       let off = broke.6 in absurd (silent (off.lines ++ codes "out of memory\n") done off.puts)

@@ -13,7 +13,7 @@ use Rattle.tpl_commands.specs.Documents.{ToDocument}
 use Rattle.tpl_commands.specs.Rules.{rules_of}
 use Rattle.tpl_commands.specs.Responding.{Answers, Reads}
 use Rattle.tpl_verify.specs.declared.verdict.Verdict.{Verdict}
-use Rattle.tpl_verify.specs.Verdicts.{HoldsAlways, HoldsFully, IsShallow, IsSo, IsVerdict}
+use Rattle.tpl_verify.specs.Verdicts.{HoldsAlways, HoldsFully, IsSo, IsVerdict, KeepsTo}
 use Rattle.tpl_verdicts.specs.declared.style.Style.{Style}
 use Rattle.tpl_verdicts.specs.declared.style.Style.TheVariants.{Text, Json, Junit, Html}
 use Rattle.tpl_verdicts.specs.Html.{IsHtml}
@@ -40,27 +40,27 @@ IsStyled Junit document names claims verdicts text = IsJunit names claims verdic
 IsStyled Html document names claims verdicts text = IsHtml document names claims verdicts text
 
 -- The text says what the verdicts on the claims of the document that the bytes spell are, each of which is true, by certificates
--- with at most so many splits; with success each claim holds in each run.
-pub record IsVerified (depth : ℕ) (style : Style) (bytes : List ℕ) (doc : DocumentValue) (exit : Exit) (text : List ℕ) : Type 0 where
+-- with at most so many splits and by so many random runs; with success each claim holds in each run.
+pub record IsVerified (depth runs : ℕ) (style : Style) (bytes : List ℕ) (doc : DocumentValue) (exit : Exit) (text : List ℕ) : Type 0 where
   pub verdicts : List Verdict
   pub true_of : AllZip (IsVerdict (rules_of doc) doc.graph.graph) doc.claims verdicts
-  pub shallow : All (IsShallow depth) verdicts
+  pub within : All (KeepsTo depth runs) verdicts
   pub ends : IsExit verdicts exit
   pub sound : exit ≡ Success → All (HoldsAlways doc.graph.graph) doc.claims
   pub says : IsStyled style (behind_mark bytes) doc.graph.names (told doc.claims doc.names verdicts) verdicts text
 
--- the answer of `verify` to bytes, by certificates with at most so many splits
-abbrev pub Verifies : ℕ → Style → Answers
-Verifies depth style bytes exit text = ToDocument (IsVerified depth style bytes) bytes exit text
+-- the answer of `verify` to bytes, by certificates with at most so many splits and by so many random runs
+abbrev pub Verifies : (depth runs : ℕ) → Style → Answers
+Verifies depth runs style bytes exit text = ToDocument (IsVerified depth runs style bytes) bytes exit text
 
 -- What was read spells a document, and the verdicts on its claims were written.
-pub record Verified {R W : Type 0} (remaining : R → Option (List ℕ)) (from_old from_new : Counting R) (contents : W → Option (List ℕ)) (to_old to_new : Counting W) (depth : ℕ) (style : Style) (exit : Exit) : Type 0 where
+pub record Verified {R W : Type 0} (remaining : R → Option (List ℕ)) (from_old from_new : Counting R) (contents : W → Option (List ℕ)) (to_old to_new : Counting W) (depth runs : ℕ) (style : Style) (exit : Exit) : Type 0 where
   pub input : List ℕ
   pub reads : Reads remaining from_old from_new input
   pub doc : DocumentValue
   pub spelled : Spells input doc
   pub text : List ℕ
-  pub is : IsVerified depth style input doc exit text
+  pub is : IsVerified depth runs style input doc exit text
   pub writes : Writes contents to_old to_new text
 
 -- What was read spells claims of a graph, and a verdict on each was written, which is true.

@@ -7,7 +7,7 @@ use Rattle.tpl_graph.specs.Fits.{Fits}
 use Rattle.tpl_model.specs.declared.rule_set.RuleSet.{RuleSet}
 use Rattle.tpl_verify.specs.Beside.{IsVerdictAt}
 use Rattle.tpl_verify.specs.declared.verdict.Verdict.{Verdict}
-use Rattle.tpl_verify.specs.Verdicts.{IsShallow, IsVerdict}
+use Rattle.tpl_verify.specs.Verdicts.{IsVerdict, KeepsTo}
 use Rattle.tpl_verdicts.specs.declared.asked.Asked.{Asked}
 use Rattle.tpl_verdicts.specs.declared.entry.Entry.{Entry}
 use Rattle.tpl_verdicts.specs.Lines.{AreNumbered, IsEntry, entry_text}
@@ -21,18 +21,18 @@ names_of asked = map (λ name. option_map string_bytes name) asked.names.now
 abbrev pub told_there : List (Option (List ℕ)) → ℕ → Claim → Verdict → Told
 told_there names place claim verdict = record { claim = claim; name = slice_index_or names place None; verdict = verdict }
 
--- there is a claim at this place, and this is a true verdict on it, by a certificate with at most so many splits
+-- there is a claim at this place, and this is a true verdict on it, which keeps to the most splits and runs
 pub record IsOneOf (asked : Asked) (place : ℕ) (verdict : Verdict) : Type 0 where
   pub within : place < length asked.claims.now
   pub fits : All (Fits asked.graph.now.graph) asked.claims.now
   pub true_of : IsVerdictAt asked.searched.rules asked.graph.now.graph asked.claims.now place verdict
-  pub shallow : IsShallow asked.searched.depth verdict
+  pub kept : KeepsTo asked.searched.depth asked.searched.runs verdict
 
 -- The text says what the verdicts on the first claims of a graph are, each of which is true, by certificates with at most so
--- many splits.
-pub record AreFirst (rules : RuleSet) (depth : ℕ) (graph : Named) (claims : List Claim) (names : List (Option (List ℕ))) (verdicts : List Verdict) (text : List ℕ) : Type 0 where
+-- many splits and by so many random runs.
+pub record AreFirst (rules : RuleSet) (depth runs : ℕ) (graph : Named) (claims : List Claim) (names : List (Option (List ℕ))) (verdicts : List Verdict) (text : List ℕ) : Type 0 where
   pub true_of : AllZip (IsVerdict rules graph.graph) (take (length verdicts) claims) verdicts
-  pub shallow : All (IsShallow depth) verdicts
+  pub within : All (KeepsTo depth runs) verdicts
   pub entries : List Entry
   pub are_entries : AreNumbered (IsEntry graph.names) 1 (told claims names verdicts) entries
   pub says : text ≡ flat_map entry_text entries
@@ -40,4 +40,4 @@ pub record AreFirst (rules : RuleSet) (depth : ℕ) (graph : Named) (claims : Li
 -- the text says what the verdicts on the first of these claims are
 abbrev pub TellsFirst : Asked → List Verdict → List ℕ → Type 0
 TellsFirst asked verdicts text =
-    AreFirst asked.searched.rules asked.searched.depth asked.graph.now asked.claims.now (names_of asked) verdicts text
+    AreFirst asked.searched.rules asked.searched.depth asked.searched.runs asked.graph.now asked.claims.now (names_of asked) verdicts text

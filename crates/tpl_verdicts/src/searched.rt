@@ -1,13 +1,15 @@
-//! How certificates were searched for.
+//! How claims were tried.
 
 use tpl_analyser::Depth;
 use tpl_model::RuleSet;
 
-/// How a certificate was searched for, for each claim.
+/// How each claim was tried.
 #[derive(Clone, Copy, Debug, Drop)]
 pub(crate) struct Searched {
-    /// With how many splits at most on each path.
+    /// By certificates with how many splits at most on each path.
     pub(crate) depth: Depth,
-    /// By which rules.
+    /// By how many random runs at most.
+    pub(crate) runs: u32,
+    /// By which rules for certificates.
     pub(crate) rules: RuleSet,
 }

@@ -9,7 +9,7 @@ ghost use Rattle.tpl_reader.specs.Prelude.{Spells, doc_of, longest};
 ghost use Rattle.tpl_series.specs.Prelude.{IsStopped, TellsAll};
 ghost use Rattle.tpl_verdicts.specs.Prelude.{AnswersBytes, IsExit, IsStreamed, Judged, PutsStop, PutsSums, Streams, TellsFirst, Verified, sums_line};
 ghost use Rattle.tpl_verdicts.specs.declared.asked.Asked.{Asked};
-ghost use Rattle.tpl_verify.specs.Prelude.{HoldsAlways, IsShallow, IsVerdict};
+ghost use Rattle.tpl_verify.specs.Prelude.{HoldsAlways, IsVerdict, KeepsTo};
 
 use crate::asked::Asked;
 use crate::searched::Searched;
@@ -21,17 +21,16 @@ use std::alloc::{AllocError, Global};
 use std::io::{Read, Write};
 use std::sync::Wait;
 use std::thread::Threads;
-use tpl_analyser::Depth;
 use tpl_commands::{Answer, Answered, Exit, Listen, put_answered, read_input, rules_of, unread};
 use tpl_journal::Counting;
 use tpl_reader::{Document, read_document_heard};
 use tpl_series::Stop;
-use tpl_verify::{Attend, Verdict, verify_in_order};
+use tpl_verify::{Attend, Limits, Verdict, verify_in_order};
 
 /// What stands behind the lines for all claims of the document, and how the program ends.
 fn ending_of(
     alloc: Global,
-    depth: Depth,
+    limits: &Limits,
     document: &Document,
     verdicts: &[Verdict],
 ) -> Result<Answered, AllocError>
@@ -45,7 +44,7 @@ fn ending_of(
     ensures found { IfOk result (λ it. it.finding ≡ None) }
 {
     let text = sums_line(alloc, verdicts)?;
-    let exit = exit_of(&judgements_of(document, verdicts, depth));
+    let exit = exit_of(&judgements_of(document, verdicts, limits));
     Ok(Answered {
         answer: Answer { exit, text },
         finding: None,
@@ -55,7 +54,7 @@ fn ending_of(
 /// Writes what stands behind the lines for the claims of the document that were told.
 fn put_ending<L: Listen, W: Write>(
     alloc: Global,
-    depth: Depth,
+    limits: &Limits,
     listener: L,
     bytes: &[u8],
     document: &Document,
@@ -72,7 +71,7 @@ fn put_ending<L: Listen, W: Write>(
 {
     match told {
         Ok(verdicts) => {
-            let ending = ending_of(alloc, depth, document, &verdicts);
+            let ending = ending_of(alloc, limits, document, &verdicts);
             put_answered(ending, listener, bytes, to)
         }
         Err(Stop::Memory) => put_answered(Err(AllocError), listener, bytes, to),
@@ -98,8 +97,8 @@ fn stream<T: Threads + Wait + Sync, A: Attend + Sync, L: Listen, W: Write + Send
     requires jobs { 0 < asked.jobs }
     requires spelled { Spells bytes.now (doc_of document.now) }
     requires claims { All (Fits document.now.graph.graph) document.now.claims.items }
-    ensures { IsStreamed W.contents to.old to.new asked.limits.depth bytes.now (doc_of document.now)
-        result }
+    ensures { IsStreamed W.contents to.old to.new asked.limits.depth asked.limits.runs
+        bytes.now (doc_of document.now) result }
 {
     let (graph, claims) = (&document.graph, document.claims.as_slice());
     let (rules, limits) = (rules_of(document), &asked.limits);
@@ -109,13 +108,14 @@ fn stream<T: Threads + Wait + Sync, A: Attend + Sync, L: Listen, W: Write + Send
         names: &document.names,
         searched: Searched {
             depth: limits.depth,
+            runs: limits.runs,
             rules,
         },
     };
     let told = verify_in_order(
         rt, alloc, graph, claims, rules, limits, asked.jobs, attend, &telling, to,
     );
-    put_ending(alloc, limits.depth, listener, bytes, document, told, to)
+    put_ending(alloc, limits, listener, bytes, document, told, to)
 }
 
 /// Writes the answer to the document that the bytes spell.
@@ -133,8 +133,8 @@ fn answer_document<T: Threads + Wait + Sync, A: Attend + Sync, L: Listen, W: Wri
     requires short { length bytes.now ≤ longest }
     requires spelled { Spells bytes.now (doc_of document.now) }
     requires claims { All (Fits document.now.graph.graph) document.now.claims.items }
-    ensures { AnswersBytes W.contents to.old to.new asked.limits.depth asked.style bytes.now
-        result }
+    ensures { AnswersBytes W.contents to.old to.new asked.limits.depth asked.limits.runs
+        asked.style bytes.now result }
 {
     match asked.style {
         Style::Text => stream(rt, alloc, asked, attend, listener, bytes, document, to),
@@ -157,8 +157,8 @@ fn answer_bytes<T: Threads + Wait + Sync, A: Attend + Sync, L: Listen, W: Write 
 ) -> Exit
     requires jobs { 0 < asked.jobs }
     requires short { length bytes.now ≤ longest }
-    ensures { AnswersBytes W.contents to.old to.new asked.limits.depth asked.style bytes.now
-        result }
+    ensures { AnswersBytes W.contents to.old to.new asked.limits.depth asked.limits.runs
+        asked.style bytes.now result }
 {
     match read_document_heard(alloc, bytes, listener) {
         Ok(document) => answer_document(rt, alloc, asked, attend, listener, bytes, &document, to),
@@ -191,7 +191,7 @@ pub fn verify_document<
 ) -> Exit
     requires jobs { 0 < asked.jobs }
     ensures streams { Streams I.remaining from.old from.new O.contents to.old to.new
-        asked.limits.depth asked.style result }
+        asked.limits.depth asked.limits.runs asked.style result }
     ensures reads { calls_of from.new ≤ calls_of from.old + (longest + 2) }
 
     // With success or failure a true verdict on each claim was written.
@@ -199,10 +199,11 @@ pub fn verify_document<
         → Judged I.remaining from.old from.new O.contents to.old to.new asked.style result }
 
     // A claim is said to hold where a certificate of it is accepted; with success there is a claim, and each holds in each run of the
-    // graph, for all inputs and whatever comes from outside, and none is known to be empty.
+    // graph, for all inputs and whatever comes from outside, and none is known to be empty. Of a claim of which nothing is known at
+    // most so many random runs were made, and fewer only where it is said that the events ran out.
     ensures verified { (result ≡ Exit.Success) ⊎ (result ≡ Exit.Failure)
         → Verified I.remaining from.old from.new O.contents to.old to.new asked.limits.depth
-        asked.style result }
+        asked.limits.runs asked.style result }
 {
     match read_input(alloc, from, to) {
         Ok(bytes) => answer_bytes(rt, alloc, asked, attend, listener, &bytes, to),

@@ -6,7 +6,7 @@ ghost use Rattle.tpl_commands.specs.Prelude.{is_verdict, rules_of};
 ghost use Rattle.tpl_graph.specs.Prelude.{Fits};
 ghost use Rattle.tpl_reader.specs.Prelude.{Spells, behind_mark, doc_of};
 ghost use Rattle.tpl_verdicts.specs.Prelude.{AreRight, IsExit, IsStyled, IsVerified, Verifies, all_told, told};
-ghost use Rattle.tpl_verify.specs.Prelude.{HoldsAlways, IsShallow, IsVerdict};
+ghost use Rattle.tpl_verify.specs.Prelude.{HoldsAlways, IsVerdict, KeepsTo};
 
 use crate::html::html_of;
 use crate::json::json_of;
@@ -18,7 +18,6 @@ use crate::text::text_of;
 use crate::verification::Verification;
 use std::alloc::{AllocError, Global};
 use std::thread::Threads;
-use tpl_analyser::Depth;
 use tpl_commands::{Answer, Answered, Command, Exit, rules_of, unread};
 use tpl_reader::{Document, Unheard, read_document_heard};
 use tpl_verify::{Attend, Limits, Verdict, all_hold, verify, verify_beside};
@@ -63,7 +62,7 @@ fn styled(
 pub(crate) fn judgements_of<'d>(
     document: &'d Document,
     verdicts: &'d [Verdict],
-    depth: Depth,
+    limits: &Limits,
 ) -> Judgements<'d>
     requires claims { All (Fits document.now.graph.graph) document.now.claims.items }
     requires verdicts { AllZip (IsVerdict (rules_of (doc_of document.now))
@@ -81,14 +80,18 @@ pub(crate) fn judgements_of<'d>(
         claims: &document.claims,
         names: &document.names,
         verdicts,
-        searched: Searched { depth, rules },
+        searched: Searched {
+            depth: limits.depth,
+            runs: limits.runs,
+            rules,
+        },
     }
 }
 
 /// The answer where these are the verdicts on the claims of the document that the bytes spell.
 fn answer_of(
     alloc: Global,
-    depth: Depth,
+    limits: &Limits,
     style: Style,
     bytes: &[u8],
     document: &Document,
@@ -98,12 +101,12 @@ fn answer_of(
     requires claims { All (Fits document.now.graph.graph) document.now.claims.items }
     requires verdicts { AllZip (IsVerdict (rules_of (doc_of document.now))
         document.now.graph.graph) document.now.claims.items verdicts.now }
-    requires shallow { All (IsShallow depth) verdicts.now }
-    ensures answer { IfOk result (λ it. IsVerified depth style bytes.now (doc_of document.now)
-        it.answer.exit (string_bytes it.answer.text)) }
+    requires within { All (KeepsTo limits.now.depth limits.now.runs) verdicts.now }
+    ensures answer { IfOk result (λ it. IsVerified limits.now.depth limits.now.runs style
+        bytes.now (doc_of document.now) it.answer.exit (string_bytes it.answer.text)) }
     ensures found { IfOk result (λ it. it.finding ≡ None) }
 {
-    let all = judgements_of(document, verdicts, depth);
+    let all = judgements_of(document, verdicts, limits);
     let text = styled(alloc, style, bytes, &all)?;
     let exit = exit_of(&all);
     let (answer, finding) = (Answer { exit, text }, None);
@@ -120,7 +123,7 @@ pub struct OneByOne {
 }
 
 impl Command for OneByOne {
-    ghost answers = { λ this. Verifies this.limits.depth this.style };
+    ghost answers = { λ this. Verifies this.limits.depth this.limits.runs this.style };
 
     fn answer(&self, alloc: Global, bytes: &[u8]) -> Result<Answered, AllocError> {
         let OneByOne { limits, style } = self;
@@ -128,7 +131,7 @@ impl Command for OneByOne {
             Ok(document) => {
                 let (graph, rules) = (&document.graph, rules_of(&document));
                 let verdicts = verify(alloc, graph, &document.claims, rules, limits)?;
-                answer_of(alloc, limits.depth, *style, bytes, &document, &verdicts)
+                answer_of(alloc, limits, *style, bytes, &document, &verdicts)
             }
             Err(misread) => unread(alloc, bytes, misread),
         }
@@ -147,12 +150,12 @@ pub(crate) fn answer_beside<T: Threads + Sync, A: Attend + Sync>(
     requires jobs { 0 < asked.jobs }
     requires spelled { Spells bytes.now (doc_of document.now) }
     requires claims { All (Fits document.now.graph.graph) document.now.claims.items }
-    ensures answer { IfOk result (λ it. IsVerified asked.limits.depth asked.style
+    ensures answer { IfOk result (λ it. IsVerified asked.limits.depth asked.limits.runs asked.style
         bytes.now (doc_of document.now) it.answer.exit (string_bytes it.answer.text)) }
     ensures found { IfOk result (λ it. it.finding ≡ None) }
 {
     let (graph, claims) = (&document.graph, document.claims.as_slice());
     let (rules, limits) = (rules_of(document), &asked.limits);
     let verdicts = verify_beside(rt, alloc, graph, claims, rules, limits, asked.jobs, attend)?;
-    answer_of(alloc, limits.depth, asked.style, bytes, document, &verdicts)
+    answer_of(alloc, limits, asked.style, bytes, document, &verdicts)
 }

@@ -7,7 +7,7 @@ use Rattle.tpl_model.specs.declared.rule_set.RuleSet.{RuleSet}
 use Rattle.tpl_model.specs.Graph.{TaskGraph}
 use Rattle.tpl_model.specs.Claims.{Claim}
 use Rattle.tpl_verify.specs.declared.verdict.Verdict.{Verdict}
-use Rattle.tpl_verify.specs.Verdicts.{IsShallow, IsVerdict}
+use Rattle.tpl_verify.specs.Verdicts.{IsVerdict, KeepsTo}
 use Rattle.tpl_verify.specs.Beside.{IsVerdictAt}
 
 -- the verdicts at all places are those on all claims
@@ -20,9 +20,9 @@ zip_places rules g (claim ∷ claims) (v ∷ verdicts) len each = (
   zip_places rules g claims verdicts (omega arith) (λ i verdict e. each (suc i) verdict e),
 )
 
--- the verdict at each place has at most so many splits
-pub shallow_places : (depth : ℕ) (verdicts : List Verdict) → ((i : ℕ) (verdict : Verdict) → slice_get verdicts i ≡ Some verdict → IsShallow depth verdict) → All (IsShallow depth) verdicts
-shallow_places depth verdicts each i other lt =
+-- the verdict at each place keeps to these limits
+pub within_places : (depth runs : ℕ) (verdicts : List Verdict) → ((i : ℕ) (verdict : Verdict) → slice_get verdicts i ≡ Some verdict → KeepsTo depth runs verdict) → All (KeepsTo depth runs) verdicts
+within_places depth runs verdicts each i other lt =
     each i (slice_index_or verdicts i other) (slice_get-get_or verdicts i other lt)
 
 pub same_length : (verdicts : List Verdict) (places : List (Option Verdict)) → places ≡ map (λ v. Some v) verdicts → length places ≡ length verdicts

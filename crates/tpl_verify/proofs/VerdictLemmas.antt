@@ -18,56 +18,55 @@ use Rattle.tpl_model.specs.Rules.{to_end}
 use Rattle.tpl_model.specs.Valid.{IsGraph}
 use Rattle.tpl_model.specs.Claims.{Claim}
 use Rattle.tpl_model.specs.declared.rule_set.RuleSet.{RuleSet}
-use Rattle.tpl_model.specs.declared.rule_set.RuleSet.TheVariants.{Narrow, Wide}
-use Rattle.tpl_model.specs.Certificate.{Tree, Accepts}
-use Rattle.tpl_model.specs.WiderRules.{LeastLeaf, WideTree, as_wide_tree}
+use Rattle.tpl_model.specs.declared.rule_set.RuleSet.TheVariants.{WithoutTokens, WithTokens}
+use Rattle.tpl_model.specs.Certificate.{Tree, Accepts, LeastLeaf}
 use Rattle.tpl_laws.specs.ByRules.{AcceptsBy, SoundByRules}
-use Rattle.tpl_laws.specs.WideTrees.{WidelyAccepts}
-use Rattle.tpl_trees.specs.WideHeights.{wide_height}
+use Rattle.tpl_laws.specs.TokenTrees.{AcceptsWithTokens}
+use Rattle.tpl_trees.specs.Heights.{height}
 use Rattle.tpl_verify.specs.declared.verdict.Verdict.{Verdict}
 use Rattle.tpl_verify.specs.declared.verdict.Verdict.TheVariants as verdict
 use Rattle.std.proofs.lemmas.List.{take_more}
-use Rattle.std.proofs.lemmas.List.Elements.{All-append, All-from_recursion, recursion_from_All}
-use Rattle.tpl_verify.specs.Verdicts.{HasNoEnd, HoldsAlways, IsCertified, under, IsNeverKept, IsShallow, IsVerdict, HoldsFully, no_end}
+use Rattle.std.proofs.lemmas.List.Elements.{All-from_recursion, All-push, recursion_from_All}
+use Rattle.tpl_verify.specs.Verdicts.{HasNoEnd, HoldsAlways, IsCertified, under, IsNeverKept, IsVerdict, KeepsTo, HoldsFully, no_end}
 
 -- an accepted certificate of one claim has one tree
-one_plain : (g : TaskGraph) (claim : Claim) (trees : List Tree) → Accepts g (claim ∷ []) trees → length (map as_wide_tree trees) ≡ 1
+one_plain : (g : TaskGraph) (claim : Claim) (trees : List Tree) → Accepts g (claim ∷ []) trees → length trees ≡ 1
 one_plain g claim [] accepted = absurd accepted
 one_plain g claim (tree ∷ []) accepted = refl
 one_plain g claim (tree ∷ other ∷ rest) accepted = absurd accepted.1
 
-one_wide : (g : TaskGraph) (claim : Claim) (trees : List WideTree) → WidelyAccepts g (claim ∷ []) trees → length trees ≡ 1
-one_wide g claim [] accepted = absurd accepted
-one_wide g claim (tree ∷ []) accepted = refl
-one_wide g claim (tree ∷ other ∷ rest) accepted = absurd accepted.1
+one_with_tokens : (g : TaskGraph) (claim : Claim) (trees : List Tree) → AcceptsWithTokens g (claim ∷ []) trees → length trees ≡ 1
+one_with_tokens g claim [] accepted = absurd accepted
+one_with_tokens g claim (tree ∷ []) accepted = refl
+one_with_tokens g claim (tree ∷ other ∷ rest) accepted = absurd accepted.1
 
-one_tree-of : (rules : RuleSet) (g : TaskGraph) (claim : Claim) (trees : List WideTree) → AcceptsBy rules g (claim ∷ []) trees → length trees ≡ 1
-one_tree-of Narrow g claim trees accepted = subst (λ (ts : List WideTree). length ts ≡ 1) (sym accepted.1) (one_plain g claim accepted.0 accepted.2)
-one_tree-of Wide g claim trees accepted = one_wide g claim trees accepted
+one_tree-of : (rules : RuleSet) (g : TaskGraph) (claim : Claim) (trees : List Tree) → AcceptsBy rules g (claim ∷ []) trees → length trees ≡ 1
+one_tree-of WithoutTokens g claim trees accepted = one_plain g claim trees accepted
+one_tree-of WithTokens g claim trees accepted = one_with_tokens g claim trees accepted
 
-only : (rules : RuleSet) (g : TaskGraph) (claim : Claim) (trees : List WideTree) (n : ℕ) → length trees ≡ 1 → AcceptsBy rules g (claim ∷ []) trees → ((tree : WideTree) → trees ≡ tree ∷ [] → n ≡ wide_height tree) → IsCertified rules g claim n
+only : (rules : RuleSet) (g : TaskGraph) (claim : Claim) (trees : List Tree) (n : ℕ) → length trees ≡ 1 → AcceptsBy rules g (claim ∷ []) trees → ((tree : Tree) → trees ≡ tree ∷ [] → n ≡ height tree) → IsCertified rules g claim n
 only rules g claim [] n one accepted splits = absurd (omega arith)
 only rules g claim (tree ∷ []) n one accepted splits = record { tree = tree; accepted = accepted; splits = sym (splits tree refl) }
 only rules g claim (tree ∷ other ∷ rest) n one accepted splits = absurd (omega arith)
 
 -- what is accepted for a list of one claim is accepted for the claim
-for_one : (rules : RuleSet) (g : TaskGraph) (claim : Claim) (claims : List Claim) (trees : List WideTree) → claims ≡ claim ∷ [] → AcceptsBy rules g claims trees → AcceptsBy rules g (claim ∷ []) trees
+for_one : (rules : RuleSet) (g : TaskGraph) (claim : Claim) (claims : List Claim) (trees : List Tree) → claims ≡ claim ∷ [] → AcceptsBy rules g claims trees → AcceptsBy rules g (claim ∷ []) trees
 for_one rules g claim claims trees e accepted = subst (λ (z : List Claim). AcceptsBy rules g z trees) e accepted
 
-pub certified : (rules : RuleSet) (g : TaskGraph) (claim : Claim) (claims : List Claim) (trees : List WideTree) (n : ℕ) → claims ≡ claim ∷ [] → AcceptsBy rules g claims trees → ((tree : WideTree) → trees ≡ tree ∷ [] → n ≡ wide_height tree) → IsCertified rules g claim n
+pub certified : (rules : RuleSet) (g : TaskGraph) (claim : Claim) (claims : List Claim) (trees : List Tree) (n : ℕ) → claims ≡ claim ∷ [] → AcceptsBy rules g claims trees → ((tree : Tree) → trees ≡ tree ∷ [] → n ≡ height tree) → IsCertified rules g claim n
 certified rules g claim claims trees n e accepted splits =
     let one = for_one rules g claim claims trees e accepted in
     only rules g claim trees n (one_tree-of rules g claim trees one) one splits
 
-pub one_tree : (rules : RuleSet) (g : TaskGraph) (claim : Claim) (claims : List Claim) (trees : List WideTree) → claims ≡ claim ∷ [] → AcceptsBy rules g claims trees → length trees ≡ 1
+pub one_tree : (rules : RuleSet) (g : TaskGraph) (claim : Claim) (claims : List Claim) (trees : List Tree) → claims ≡ claim ∷ [] → AcceptsBy rules g claims trees → length trees ≡ 1
 one_tree rules g claim claims trees e accepted = one_tree-of rules g claim trees (for_one rules g claim claims trees e accepted)
 
 -- the only tree has at most as many splits as each may have
-pub shallow : (trees : List WideTree) (n depth : ℕ) → length trees ≡ 1 → ((tree : WideTree) → trees ≡ tree ∷ [] → n ≡ wide_height tree) → All (λ tree. wide_height tree ≤ depth) trees → n ≤ depth
+pub shallow : (trees : List Tree) (n depth : ℕ) → length trees ≡ 1 → ((tree : Tree) → trees ≡ tree ∷ [] → n ≡ height tree) → All (λ tree. height tree ≤ depth) trees → n ≤ depth
 shallow [] n depth one splits all = absurd (omega arith)
 shallow (tree ∷ []) n depth one splits all =
     let e = splits tree refl in
-    let le : wide_height tree ≤ depth = all 0 tree (omega arith) in
+    let le : height tree ≤ depth = all 0 tree (omega arith) in
     omega (arith, e, le)
 shallow (tree ∷ other ∷ rest) n depth one splits all = absurd (omega arith)
 
@@ -77,16 +76,16 @@ likewise P other given body e f so =
     subst (λ (x : List Given). P (under x body)) e (subst (λ (p : Property TaskId). P (under other.given p)) f so)
 
 -- its claim holds in each run
-pub always : (rules : RuleSet) (g : TaskGraph) (claim : Claim) (claims : List Claim) (trees : List WideTree) → SoundByRules → IsGraph g → claims ≡ claim ∷ [] → AcceptsBy rules g claims trees → HoldsAlways g claim
+pub always : (rules : RuleSet) (g : TaskGraph) (claim : Claim) (claims : List Claim) (trees : List Tree) → SoundByRules → IsGraph g → claims ≡ claim ∷ [] → AcceptsBy rules g claims trees → HoldsAlways g claim
 always rules g claim claims trees sound is e accepted v h run = (sound rules g (claim ∷ []) trees is (for_one rules g claim claims trees e accepted) v h run).0
 
 -- the tree without a split is accepted for the claim: it is certified
-pub at_once : (rules : RuleSet) (g : TaskGraph) (claim : Claim) → rules ≡ Wide → WidelyAccepts g (claim ∷ []) (LeastLeaf ∷ []) → IsCertified rules g claim 0
+pub at_once : (rules : RuleSet) (g : TaskGraph) (claim : Claim) → rules ≡ WithTokens → AcceptsWithTokens g (claim ∷ []) (LeastLeaf ∷ []) → IsCertified rules g claim 0
 at_once rules g claim e accepted = subst (λ r. IsCertified r g claim 0) (sym e) (record { tree = LeastLeaf; accepted = accepted; splits = refl })
 
 -- it holds in each run
-pub always_at_once : (g : TaskGraph) (claim : Claim) → SoundByRules → IsGraph g → WidelyAccepts g (claim ∷ []) (LeastLeaf ∷ []) → HoldsAlways g claim
-always_at_once g claim sound is accepted v h run = (sound Wide g (claim ∷ []) (LeastLeaf ∷ []) is accepted v h run).0
+pub always_at_once : (g : TaskGraph) (claim : Claim) → SoundByRules → IsGraph g → AcceptsWithTokens g (claim ∷ []) (LeastLeaf ∷ []) → HoldsAlways g claim
+always_at_once g claim sound is accepted v h run = (sound WithTokens g (claim ∷ []) (LeastLeaf ∷ []) is accepted v h run).0
 
 no_member : (f : Final) → has no_end f ≡ true → ⊥
 no_member RanToCompletion e = absurd (cc)
@@ -124,11 +123,10 @@ verdict_more rules g claims verdicts more i claim v lt is so_far one pushed =
     (subst (λ (z : List Claim). AllZip (IsVerdict rules g) z (verdicts ++ v ∷ [])) (sym (take_more claims i claim lt))
     (zip_snoc (IsVerdict rules g) (take i claims) verdicts (slice_index_or claims i claim) v so_far (subst (λ (z : Claim). IsVerdict rules g z v) is one)))
 
--- the verdict on one claim more has at most so many splits
-pub shallow_more : (depth : ℕ) (verdicts more : List Verdict) (v : Verdict) → All (IsShallow depth) verdicts → IsShallow depth v → more ≡ verdicts ++ v ∷ [] → All (IsShallow depth) more
-shallow_more depth verdicts more v all one pushed =
-    subst (λ (z : List Verdict). All (IsShallow depth) z) (sym pushed)
-    (All-append (IsShallow depth) verdicts (v ∷ []) all (All-from_recursion (IsShallow depth) (v ∷ []) (one, tt)))
+-- the verdict on one claim more keeps to these limits
+pub within_more : (depth runs : ℕ) (verdicts more : List Verdict) (v : Verdict) → All (KeepsTo depth runs) verdicts → KeepsTo depth runs v → more ≡ verdicts ++ v ∷ [] → All (KeepsTo depth runs) more
+within_more depth runs verdicts more v all one pushed =
+    subst (λ (z : List Verdict). All (KeepsTo depth runs) z) (sym pushed) (All-push (KeepsTo depth runs) verdicts v all one)
 
 -- a claim whose verdict says that it holds does so
 held_always : (rules : RuleSet) (g : TaskGraph) (claim : Claim) (v : Verdict) → IsVerdict rules g claim v → HoldsFully v → HoldsAlways g claim

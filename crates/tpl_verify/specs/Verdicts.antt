@@ -15,14 +15,15 @@ use Rattle.tpl_model.specs.Graph.{TaskGraph, body, kind, task}
 use Rattle.tpl_model.specs.Rules.{Run, Complete, label}
 use Rattle.tpl_model.specs.Claims.{Claim, IsGiven, Holds}
 use Rattle.tpl_model.specs.declared.rule_set.RuleSet.{RuleSet}
-use Rattle.tpl_model.specs.Certificate.{assumed}
-use Rattle.tpl_model.specs.WiderRules.{WideTree}
+use Rattle.tpl_model.specs.Certificate.{assumed, Tree}
 use Rattle.tpl_graph.specs.Fits.{Fits, has_body}
 use Rattle.tpl_laws.specs.ByRules.{AcceptsBy}
-use Rattle.tpl_trees.specs.WideHeights.{wide_height}
+use Rattle.tpl_trees.specs.Heights.{height}
+use Rattle.tpl_analyser.specs.declared.ran_out.RanOut.{RanOut}
 use Rattle.tpl_refute.specs.Refuting.{Refutes}
 use Rattle.tpl_verify.specs.declared.verdict.Empty.{Empty}
 use Rattle.tpl_verify.specs.declared.verdict.Empty.TheVariants.{NeverBegins, NamesAllEnds, NamesGivenEnds, NeverThrows, NeverEndsSo, NeverEnds, NeverKept}
+use Rattle.tpl_verify.specs.declared.verdict.Tried.{Tried}
 use Rattle.tpl_verify.specs.declared.verdict.Verdict.{Verdict}
 use Rattle.tpl_verify.specs.declared.verdict.Verdict.TheVariants as verdict
 
@@ -32,9 +33,9 @@ HoldsAlways g claim = (v : List Bool) (h : List Event) → Run g v h → Holds g
 
 -- a tree with n splits above its deepest leaf is accepted for the claim by the rules
 pub record IsCertified (rules : RuleSet) (g : TaskGraph) (claim : Claim) (n : ℕ) : Type 0 where
-  pub tree : WideTree
+  pub tree : Tree
   pub accepted : AcceptsBy rules g (claim ∷ []) (tree ∷ [])
-  pub splits : wide_height tree ≡ n
+  pub splits : height tree ≡ n
 
 -- a claim of another property under the same given
 abbrev pub under : List Given → Property TaskId → Claim
@@ -175,11 +176,21 @@ IsVerdict rules g claim (verdict.Holds splits empty) = IsHeld rules g claim spli
 IsVerdict rules g claim (verdict.Fails run) = Refutes g claim run.inputs run.events.items
 IsVerdict rules g claim (verdict.Unknown tried) = Unit {0}
 
--- a claim that holds does so by a certificate with at most so many splits
-abbrev pub IsShallow : ℕ → Verdict → Type 0
-IsShallow depth (verdict.Holds splits empty) = splits ≤ depth
-IsShallow depth (verdict.Fails run) = Unit {0}
-IsShallow depth (verdict.Unknown tried) = Unit {0}
+-- at most so many random runs were made, and so many unless the events that may be played ran out
+abbrev pub IsTried : ℕ → Tried → Type 0
+IsTried runs tried = (tried.runs ≤ runs) × ((tried.runs ≡ runs) ⊎ IsTrue tried.events_ran_out)
+
+-- a claim that holds does so by a certificate with at most so many splits, and one of which nothing is known was tried by so many runs
+abbrev pub KeepsTo : (depth runs : ℕ) → Verdict → Type 0
+KeepsTo depth runs (verdict.Holds splits empty) = splits ≤ depth
+KeepsTo depth runs (verdict.Fails run) = Unit {0}
+KeepsTo depth runs (verdict.Unknown tried) = IsTried runs tried
+
+-- where nothing is known of a claim, this is said to have run out in the search for a certificate
+abbrev pub SaysRanOut : RanOut → Verdict → Type 0
+SaysRanOut ran_out (verdict.Holds splits empty) = Unit {0}
+SaysRanOut ran_out (verdict.Fails run) = Unit {0}
+SaysRanOut ran_out (verdict.Unknown tried) = tried.ran_out ≡ ran_out
 
 -- the verdict is true of the claim, whatever it was found by
 abbrev pub IsSo : TaskGraph → Claim → Verdict → Type 0

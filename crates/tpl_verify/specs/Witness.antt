@@ -3,7 +3,7 @@ use Rattle.std.specs.Prelude.{◌≡◌, ◌⊎◌, ◌<◌, ◌≤◌, ℕ, Boo
 use Rattle.json.specs.Lex.{tokens}
 use Rattle.json.specs.Print.{print}
 use Rattle.tpl_model.specs.declared.event.Event.{Event}
-use Rattle.tpl_model.specs.WiderRules.{WideTree}
+use Rattle.tpl_model.specs.Certificate.{Tree}
 use Rattle.tpl_model.specs.declared.rule_set.RuleSet.{RuleSet}
 use Rattle.tpl_laws.specs.ByRules.{AcceptsBy}
 use Rattle.tpl_model.specs.Claims.{Claim}
@@ -59,7 +59,7 @@ pub record IsRefutation (asked : Option ℕ) (doc : DocumentValue) (text : List 
   pub only : (other : DocumentValue) → Spells text other → other ≡ refuted_by doc inputs events
   pub journal : IsJournal doc.graph (lines doc.graph.names events) events
   pub audited : IsAuditedSo doc.graph.names (length events) text
-  pub unproved : (rules : RuleSet) (certificate : List WideTree) → AcceptsBy rules doc.graph.graph doc.claims certificate → ⊥
+  pub unproved : (rules : RuleSet) (certificate : List Tree) → AcceptsBy rules doc.graph.graph doc.claims certificate → ⊥
   pub json : List ℕ
   pub compact : json ≡ print (tokens json)
   pub ends : text ≡ json ++ codes "\n"

@@ -3,7 +3,7 @@
 ghost use Rattle.std.specs.Prelude.{◌≡◌, ◌<◌, ℕ, length, map, IfOk, IfSome, Some, None, slice_get, slice_index_or, All};
 ghost use Rattle.std.specs.List.{AllZip};
 ghost use Rattle.tpl_graph.specs.Prelude.{Fits};
-ghost use Rattle.tpl_verify.specs.Prelude.{IsAtHand, IsShallow, IsVerdict, IsVerdictAt};
+ghost use Rattle.tpl_verify.specs.Prelude.{IsAtHand, IsVerdict, IsVerdictAt, KeepsTo};
 ghost use Rattle.tpl_verify.specs.declared.verdict.Verdict.{Verdict};
 
 use crate::attend::Attend;
@@ -17,7 +17,7 @@ use tpl_checker::Below;
 use tpl_graph::{Claim, Graph};
 use tpl_model::RuleSet;
 use tpl_refute::Seen;
-use tpl_wide::{Unsplit, links};
+use tpl_token_check::{Unsplit, links};
 
 /// The verdict on the claim at this place; none where memory was refused.
 pub(crate) fn verdict_at<A: Attend>(
@@ -35,7 +35,7 @@ pub(crate) fn verdict_at<A: Attend>(
     requires at { at < length claims.now }
     requires unsplit { IsAtHand graph.now.graph unsplit.now }
     ensures verdict { IfSome result (IsVerdictAt rules graph.now.graph claims.now at) }
-    ensures shallow { IfSome result (IsShallow limits.now.depth) }
+    ensures within { IfSome result (KeepsTo limits.now.depth limits.now.runs) }
 {
     let number = at as u64 + 1;
     match verify_claim(
@@ -166,13 +166,14 @@ fn verdicts_beside<R: Threads + Sync, A: Attend + Sync>(
     requires unsplit { IsAtHand graph.now.graph unsplit.now }
     ensures verdicts { IfOk result (λ verdicts.
         AllZip (IsVerdict rules graph.now.graph) claims.now verdicts.items) }
-    ensures shallow { IfOk result (λ verdicts.
-        All (IsShallow limits.now.depth) verdicts.items) }
+    ensures within { IfOk result (λ verdicts.
+        All (KeepsTo limits.now.depth limits.now.runs) verdicts.items) }
 {
     let answer = |at: usize| -> Option<Verdict>
         requires { All (Fits graph.now.graph) claims.now × (at < length claims.now)
             × IsAtHand graph.now.graph unsplit.now }
-        ensures { IfSome result (λ verdict. IsShallow limits.entry.now.depth verdict
+        ensures { IfSome result (λ verdict.
+            KeepsTo limits.entry.now.depth limits.entry.now.runs verdict
             × IsVerdictAt rules graph.entry.now.graph claims.entry.now at verdict) }
     {
         verdict_at(
@@ -200,8 +201,8 @@ pub fn verify_beside<R: Threads + Sync, A: Attend + Sync>(
     requires jobs { 0 < jobs }
     ensures verdicts { IfOk result (λ verdicts.
         AllZip (IsVerdict rules graph.now.graph) claims.now verdicts.items) }
-    ensures shallow { IfOk result (λ verdicts.
-        All (IsShallow limits.now.depth) verdicts.items) }
+    ensures within { IfOk result (λ verdicts.
+        All (KeepsTo limits.now.depth limits.now.runs) verdicts.items) }
 {
     let below = Box::new(alloc, Below::of_graph(graph))?;
     let linked = links(graph);

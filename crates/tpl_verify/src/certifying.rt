@@ -3,8 +3,8 @@
 ghost use Rattle.std.specs.Prelude.{◌≡◌, ◌≤◌, ◌∷◌, [], length, IfOk, IsTrue};
 ghost use Rattle.tpl_commands.specs.Prelude.{trees_of};
 ghost use Rattle.tpl_graph.specs.Prelude.{Fits};
-ghost use Rattle.tpl_model.specs.Prelude.{WideTree, as_wide_tree};
-ghost use Rattle.tpl_trees.specs.Prelude.{wide_height};
+ghost use Rattle.tpl_model.specs.Prelude.{Tree};
+ghost use Rattle.tpl_trees.specs.Prelude.{height};
 ghost use Rattle.tpl_verify.specs.Prelude.{HoldsAlways, IsCertified, under};
 
 use crate::limits::FEW_LEAVES;
@@ -15,49 +15,32 @@ use tpl_analyser::{Budget, Form, Gap, Unwatched};
 use tpl_commands::{Proof, find_proof};
 use tpl_graph::Claim;
 use tpl_model::{MOST_SPLITS, Property};
-use tpl_trees::{Node, Tree, WideNode, WideTree};
+use tpl_trees::{Node, Tree};
 
 /// How many splits the tree has above its deepest leaf.
 fn splits_of(tree: &Tree) -> u8
-    requires { wide_height (as_wide_tree tree.now) ≤ MOST_SPLITS }
-    ensures { result ≡ wide_height (as_wide_tree tree.now) }
+    requires { height tree.now ≤ MOST_SPLITS }
+    ensures { result ≡ height tree.now }
 {
     match tree.node() {
-        Node::SplitInput(_, first, second) => splits_of(first).max(splits_of(second)) + 1,
+        Node::SplitInput(_, first, second) | Node::SplitWinner(_, _, first, second) => {
+            splits_of(first).max(splits_of(second)) + 1
+        }
         Node::SplitEnd(_, ran, canceled, faulted) => {
-            splits_of(ran).max(splits_of(canceled).max(splits_of(faulted))) + 1
+            let others = splits_of(canceled).max(splits_of(faulted));
+            splits_of(ran).max(others) + 1
         }
-        Node::Leaf(_) => 0,
-    }
-}
-
-/// The same of a tree that may speak of tokens and of winners.
-fn wide_splits_of(tree: &WideTree) -> u8
-    requires { wide_height tree.now ≤ MOST_SPLITS }
-    ensures { result ≡ wide_height tree.now }
-{
-    match tree.node() {
-        WideNode::SplitInput(_, first, second) | WideNode::SplitWinner(_, _, first, second) => {
-            wide_splits_of(first).max(wide_splits_of(second)) + 1
-        }
-        WideNode::SplitEnd(_, ran, canceled, faulted) => {
-            let others = wide_splits_of(canceled).max(wide_splits_of(faulted));
-            wide_splits_of(ran).max(others) + 1
-        }
-        WideNode::Leaf(_) | WideNode::Least => 0,
+        Node::Leaf(_) | Node::Least => 0,
     }
 }
 
 /// How many splits the only tree of a certificate has above its deepest leaf.
 fn splits_in(proof: &Proof) -> u8
     requires { length (trees_of proof.now) ≡ 1 }
-    ensures { (tree : WideTree) → trees_of proof.now ≡ tree ∷ [] → result ≡ wide_height tree }
+    ensures { (tree : Tree) → trees_of proof.now ≡ tree ∷ [] → result ≡ height tree }
 {
     proof.limits_law();
-    match proof {
-        Proof::Plain(certificate) => splits_of(&certificate.trees()[0]),
-        Proof::Wide(certificate) => wide_splits_of(&certificate.trees()[0]),
-    }
+    splits_of(&proof.trees()[0])
 }
 
 /// Searches a certificate of the claim by the rules within this budget, and says how many splits it has above its deepest

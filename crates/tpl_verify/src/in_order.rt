@@ -3,7 +3,7 @@
 ghost use Rattle.std.specs.Prelude.{◌≡◌, ◌<◌, ℕ, [], length, IfSome, MatchResult, All};
 ghost use Rattle.tpl_graph.specs.Prelude.{Fits};
 ghost use Rattle.tpl_series.specs.Prelude.{IsStopped, TellsAll};
-ghost use Rattle.tpl_verify.specs.Prelude.{IsAtHand, IsShallow, IsVerdictAt};
+ghost use Rattle.tpl_verify.specs.Prelude.{IsAtHand, IsVerdictAt, KeepsTo};
 ghost use Rattle.tpl_verify.specs.declared.verdict.Verdict.{Verdict};
 
 use crate::attend::Attend;
@@ -21,7 +21,7 @@ use tpl_journal::Counting;
 use tpl_model::RuleSet;
 use tpl_refute::Seen;
 use tpl_series::{Stop, Tell, tell_in_order};
-use tpl_wide::{Unsplit, links};
+use tpl_token_check::{Unsplit, links};
 
 /// Tells the verdicts on the claims, as [`verify_in_order`] does, with what is made once for all of them.
 fn tell_verdicts<
@@ -48,7 +48,7 @@ fn tell_verdicts<
     requires unsplit { IsAtHand graph.now.graph unsplit.now }
     requires fits { (i : ℕ) (verdict : Verdict) → i < length claims.now
         → IsVerdictAt rules graph.now.graph claims.now i verdict
-        → IsShallow limits.now.depth verdict → T.fits telling.now i verdict }
+        → KeepsTo limits.now.depth limits.now.runs verdict → T.fits telling.now i verdict }
     requires begins { T.tells telling.now [] [] }
     ensures { MatchResult result
         (λ told. TellsAll (T.tells telling.now) (length claims.now) W.contents to.old to.new
@@ -58,7 +58,8 @@ fn tell_verdicts<
     let answer = |at: usize| -> Option<Verdict>
         requires { All (Fits graph.now.graph) claims.now × (at < length claims.now)
             × IsAtHand graph.now.graph unsplit.now }
-        ensures { IfSome result (λ verdict. IsShallow limits.entry.now.depth verdict
+        ensures { IfSome result (λ verdict.
+            KeepsTo limits.entry.now.depth limits.entry.now.runs verdict
             × IsVerdictAt rules graph.entry.now.graph claims.entry.now at verdict) }
     {
         verdict_at(
@@ -94,7 +95,7 @@ pub fn verify_in_order<
     requires jobs { 0 < jobs }
     requires fits { (i : ℕ) (verdict : Verdict) → i < length claims.now
         → IsVerdictAt rules graph.now.graph claims.now i verdict
-        → IsShallow limits.now.depth verdict → T.fits telling.now i verdict }
+        → KeepsTo limits.now.depth limits.now.runs verdict → T.fits telling.now i verdict }
     requires begins { T.tells telling.now [] [] }
     ensures { MatchResult result
         (λ told. TellsAll (T.tells telling.now) (length claims.now) W.contents to.old to.new

@@ -1,10 +1,10 @@
 //! What is answered of a claim.
 
-ghost use Rattle.std.specs.Prelude.{◌≡◌, codes, if◌then◌else◌};
+ghost use Rattle.std.specs.Prelude.{◌≡◌, ◌↔◌, IsTrue, codes, if◌then◌else◌};
 
 use tpl_analyser::RanOut;
 use tpl_model::TaskId;
-use tpl_refute::Counterexample;
+use tpl_refute::{Counterexample, Sought};
 
 /// What is answered of a claim.
 #[derive(Drop)]
@@ -53,6 +53,20 @@ pub struct Tried {
 }
 
 impl Tried {
+    /// How far a claim was tried by a search that found no run in which it fails, where this ran out in the search for a
+    /// certificate.
+    pub(crate) fn by(ran_out: RanOut, sought: &Sought) -> Tried
+        ensures ran_out { result.ran_out ≡ ran_out }
+        ensures runs { result.runs ≡ sought.now.runs }
+        ensures events { IsTrue result.events_ran_out ↔ (sought.now.left ≡ 0) }
+    {
+        Tried {
+            ran_out,
+            runs: sought.runs,
+            events_ran_out: sought.left == 0,
+        }
+    }
+
     /// What is said behind the number of runs.
     pub fn most(self) -> &'static str
         ensures { result.now

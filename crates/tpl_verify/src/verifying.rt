@@ -4,8 +4,8 @@ ghost use Rattle.std.specs.Prelude.{IfOk, IsTrue, All};
 ghost use Rattle.std.specs.List.{AllZip};
 ghost use Rattle.tpl_checker.specs.Prelude.{AreBelow};
 ghost use Rattle.tpl_graph.specs.Prelude.{Fits};
-ghost use Rattle.tpl_leaf.specs.Prelude.{AreLinks};
-ghost use Rattle.tpl_verify.specs.Prelude.{HoldsAlways, IsAtHand, IsCertified, IsJudged, IsShallow, IsVerdict};
+ghost use Rattle.tpl_token_leaf.specs.Prelude.{AreLinks};
+ghost use Rattle.tpl_verify.specs.Prelude.{HoldsAlways, IsAtHand, IsCertified, IsJudged, IsVerdict, KeepsTo, SaysRanOut};
 
 use crate::certifying::certify;
 use crate::empty::why_empty;
@@ -19,7 +19,7 @@ use tpl_graph::{Claim, Graph};
 use tpl_model::RuleSet;
 use tpl_paths::TokenSet;
 use tpl_refute::{Effort, Seen, refute};
-use tpl_wide::{Unsplit, links};
+use tpl_token_check::{Unsplit, links};
 
 /// The verdict on a claim for which no certificate was found, after these random runs.
 fn tried(
@@ -30,16 +30,14 @@ fn tried(
     requires { Fits question.now.graph.now.graph question.now.claim.now }
     ensures judged { IfOk result (IsJudged question.now.rules question.now.graph.now.graph
         question.now.claim.now) }
-    ensures shallow { IfOk result (IsShallow question.now.depth) }
+    ensures within { IfOk result (KeepsTo question.now.depth effort.runs) }
+    ensures ran_out { IfOk result (SaysRanOut ran_out) }
 {
     let sought = refute(question.alloc, question.graph, question.claim, effort)?;
+    let tried = Tried::by(ran_out, &sought);
     match sought.found {
         Some(found) => Ok(Verdict::Fails(found)),
-        None => Ok(Verdict::Unknown(Tried {
-            ran_out,
-            runs: sought.runs,
-            events_ran_out: sought.left == 0,
-        })),
+        None => Ok(Verdict::Unknown(tried)),
     }
 }
 
@@ -52,7 +50,7 @@ fn certified_or_tried(
     requires { Fits question.now.graph.now.graph question.now.claim.now }
     ensures judged { IfOk result (IsJudged question.now.rules question.now.graph.now.graph
         question.now.claim.now) }
-    ensures shallow { IfOk result (IsShallow question.now.depth) }
+    ensures within { IfOk result (KeepsTo question.now.depth limits.now.runs) }
 {
     let mut budget = Budget::new(Unwatched, limits.leaves);
     match certify(question, &mut budget) {
@@ -74,7 +72,7 @@ fn refuted_or_certified(
     requires { Fits question.now.graph.now.graph question.now.claim.now }
     ensures judged { IfOk result (IsJudged question.now.rules question.now.graph.now.graph
         question.now.claim.now) }
-    ensures shallow { IfOk result (IsShallow question.now.depth) }
+    ensures within { IfOk result (KeepsTo question.now.depth limits.now.runs) }
 {
     let (alloc, effort) = (question.alloc, limits.first_runs(number));
     let first = refute(alloc, question.graph, question.claim, effort)?;
@@ -101,7 +99,7 @@ pub fn judge_claim(
 ) -> Result<Verdict, AllocError>
     requires { Fits graph.now.graph claim.now }
     ensures judged { IfOk result (IsJudged rules graph.now.graph claim.now) }
-    ensures shallow { IfOk result (IsShallow limits.now.depth) }
+    ensures within { IfOk result (KeepsTo limits.now.depth limits.now.runs) }
 {
     let question = Question {
         alloc,
@@ -156,8 +154,8 @@ fn is_accepted(
         return Ok(false);
     }
     match rules {
-        RuleSet::Narrow => Ok(false),
-        RuleSet::Wide => {
+        RuleSet::WithoutTokens => Ok(false),
+        RuleSet::WithTokens => {
             graph.valid_law();
             tpl_laws::sound_by_rules();
             let accepted = unsplit.accepts(alloc, claim)?;
@@ -179,7 +177,7 @@ fn judge_at_hand(
     requires fits { Fits graph.now.graph claim.now }
     requires unsplit { IsAtHand graph.now.graph unsplit.now }
     ensures judged { IfOk result (IsJudged rules graph.now.graph claim.now) }
-    ensures shallow { IfOk result (IsShallow limits.now.depth) }
+    ensures within { IfOk result (KeepsTo limits.now.depth limits.now.runs) }
 {
     if is_accepted(alloc, graph, claim, rules, unsplit)? {
         return Ok(Verdict::Holds {
@@ -206,7 +204,7 @@ pub fn verify_claim(
     requires fits { Fits graph.now.graph claim.now }
     requires unsplit { IsAtHand graph.now.graph unsplit.now }
     ensures verdict { IfOk result (IsVerdict rules graph.now.graph claim.now) }
-    ensures shallow { IfOk result (IsShallow limits.now.depth) }
+    ensures within { IfOk result (KeepsTo limits.now.depth limits.now.runs) }
 {
     match judge_at_hand(alloc, graph, claim, rules, number, limits, unsplit)? {
         Verdict::Holds { splits, .. } => {
@@ -229,8 +227,8 @@ pub fn verify(
     requires { All (Fits graph.now.graph) claims.now }
     ensures verdicts { IfOk result (λ verdicts.
         AllZip (IsVerdict rules graph.now.graph) claims.now verdicts.items) }
-    ensures shallow { IfOk result (λ verdicts.
-        All (IsShallow limits.now.depth) verdicts.items) }
+    ensures within { IfOk result (λ verdicts.
+        All (KeepsTo limits.now.depth limits.now.runs) verdicts.items) }
 {
     let below = Box::new(alloc, Below::of_graph(graph))?;
     let linked = links(graph);

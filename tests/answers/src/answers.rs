@@ -24,7 +24,7 @@ pub fn answer(
         "words" => words_answer(alloc, question),
         "sets" => sets_answer(alloc, question),
         "bytes" => bytes_answer(alloc, question),
-        "script" | "tree" | "wide" | "lengths" | "same" => {
+        "script" | "tree" | "tokens" | "lengths" | "same" => {
             document_answer(alloc, kind, context.as_bytes(), question)
         }
         _ => document_answer(alloc, kind, question.as_bytes(), ""),
@@ -57,8 +57,8 @@ fn answer_about(
         "answers" => readers_answer(alloc, &document.graph),
         "same" => same_answer(alloc, &document.graph, question),
         "script" => script_answer(alloc, &document.graph, question),
-        "tree" => tree_answer(alloc, &document.graph, RuleSet::Narrow, question),
-        "wide" => tree_answer(alloc, &document.graph, RuleSet::Wide, question),
+        "tree" => tree_answer(alloc, &document.graph, RuleSet::WithoutTokens, question),
+        "tokens" => tree_answer(alloc, &document.graph, RuleSet::WithTokens, question),
         "claims" => claims_answer(alloc, document),
         "lengths" => lengths_answer(alloc, document, question),
         _ => String::from_str(alloc, "no kind of question"),

@@ -3,14 +3,12 @@
 use json::{Scratch, Value};
 use std::alloc::{AllocError, Global};
 use std::slice;
-use tpl_cert::{TreeToFault, tree_from, trees_text, wide_tree_from, wide_trees_text};
+use tpl_cert::{TreeToFault, tree_from, trees_text};
 use tpl_graph::Graph;
 use tpl_json::value_from;
 use tpl_model::{Finals, RuleSet, TaskId, TaskSet, TokenId};
 use tpl_paths::TokenSet;
-use tpl_trees::{
-    Node, Row, Tree, WideNode, WideRow, WideTree, is_within_limits, is_within_wide_limits,
-};
+use tpl_trees::{Node, PlainRow, Row, Tree, is_within_limits};
 
 /// What stands within the brackets of an array.
 fn within_brackets(text: &str) -> Option<&str> {
@@ -28,18 +26,15 @@ fn written(alloc: Global, text: Result<String, TreeToFault>) -> Result<String, A
     }
 }
 
-/// The text that is written of the tree that the value spells, or why it spells none.
-fn narrow_text(alloc: Global, graph: &Graph, value: &Value<'_>) -> Result<String, AllocError> {
-    match tree_from(alloc, graph, value) {
-        Ok(tree) => written(alloc, trees_text(alloc, graph, slice::from_ref(&tree))),
-        Err(fault) => format!(in alloc; "{fault}"),
-    }
-}
-
-/// The same, of a tree that may speak of tokens and of winners.
-fn wide_text(alloc: Global, graph: &Graph, value: &Value<'_>) -> Result<String, AllocError> {
-    match wide_tree_from(alloc, graph, value) {
-        Ok(tree) => written(alloc, wide_trees_text(alloc, graph, slice::from_ref(&tree))),
+/// The text that is written of the tree that the value spells by the rules, or why it spells none.
+fn tree_text(
+    alloc: Global,
+    graph: &Graph,
+    rules: RuleSet,
+    value: &Value<'_>,
+) -> Result<String, AllocError> {
+    match tree_from(alloc, rules, graph, value) {
+        Ok(tree) => written(alloc, trees_text(alloc, graph, rules, slice::from_ref(&tree))),
         Err(fault) => format!(in alloc; "{fault}"),
     }
 }
@@ -48,10 +43,7 @@ fn wide_text(alloc: Global, graph: &Graph, value: &Value<'_>) -> Result<String, 
 fn once(alloc: Global, graph: &Graph, rules: RuleSet, text: &str) -> Result<String, AllocError> {
     let mut scratch = Scratch::new(alloc);
     match value_from(alloc, text.as_bytes(), &mut scratch) {
-        Ok(value) => match rules {
-            RuleSet::Narrow => narrow_text(alloc, graph, &value),
-            RuleSet::Wide => wide_text(alloc, graph, &value),
-        },
+        Ok(value) => tree_text(alloc, graph, rules, &value),
         Err(_) => String::from_str(alloc, "not JSON"),
     }
 }
@@ -71,43 +63,38 @@ fn twice(alloc: Global, graph: &Graph, rules: RuleSet, text: &str) -> Result<Str
 }
 
 /// A row with this chain and no more.
-fn row_with(chain: Vec<TaskId>) -> Row {
+fn row_with(chain: Vec<TaskId>) -> PlainRow {
     let ends = Finals {
         ran: false,
         canceled: true,
         faulted: false,
     };
-    Row::new(ends, false, TaskSet::empty(), TaskSet::empty(), chain)
+    PlainRow::new(ends, false, TaskSet::empty(), TaskSet::empty(), chain)
 }
 
 /// A tree with a task that a graph of three tasks doesn't have.
-fn stranger(alloc: Global) -> Result<Tree, AllocError> {
+fn task_stranger(alloc: Global) -> Result<Tree, AllocError> {
     let chain = vec![in alloc; TaskId(3)]?;
-    Ok(Tree::new(Node::Leaf(vec![in alloc; row_with(chain)]?)))
+    let row = Row::without_tokens(row_with(chain));
+    Ok(Tree::new(Node::Leaf(vec![in alloc; row]?)))
 }
 
 /// A tree with a token that a graph of two tokens doesn't have.
-fn wide_stranger(alloc: Global) -> Result<WideTree, AllocError> {
+fn token_stranger(alloc: Global) -> Result<Tree, AllocError> {
     let mut asks = TokenSet::empty();
     asks.insert(TokenId(2));
-    let row = WideRow::new(row_with(Vec::new(alloc)), TokenSet::empty(), asks);
-    Ok(WideTree::new(WideNode::Leaf(vec![in alloc; row]?)))
+    let row = Row::new(row_with(Vec::new(alloc)), TokenSet::empty(), asks);
+    Ok(Tree::new(Node::Leaf(vec![in alloc; row]?)))
 }
 
 /// What is written of such a tree, and whether it is within the limits.
 fn stranger_text(alloc: Global, graph: &Graph, rules: RuleSet) -> Result<String, AllocError> {
-    let (within, text) = match rules {
-        RuleSet::Narrow => {
-            let tree = stranger(alloc)?;
-            let text = trees_text(alloc, graph, slice::from_ref(&tree));
-            (is_within_limits(&tree), text)
-        }
-        RuleSet::Wide => {
-            let tree = wide_stranger(alloc)?;
-            let text = wide_trees_text(alloc, graph, slice::from_ref(&tree));
-            (is_within_wide_limits(&tree), text)
-        }
+    let tree = match rules {
+        RuleSet::WithoutTokens => task_stranger(alloc)?,
+        RuleSet::WithTokens => token_stranger(alloc)?,
     };
+    let within = is_within_limits(&tree);
+    let text = trees_text(alloc, graph, rules, slice::from_ref(&tree));
     let text = written(alloc, text)?;
     format!(in alloc; "within the limits: {within}, {text}")
 }

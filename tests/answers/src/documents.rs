@@ -15,10 +15,7 @@ pub fn fault_text(alloc: Global, fault: ReadFault) -> Result<String, AllocError>
 
 /// How many trees its certificate has.
 fn trees_of(document: &Document) -> usize {
-    match document.version.rules() {
-        RuleSet::Narrow => document.certificate.trees().len(),
-        RuleSet::Wide => document.wide.trees().len(),
-    }
+    document.certificate.trees().len()
 }
 
 /// How many there are of each part of a document.

@@ -13,7 +13,7 @@ pub returns-in-Refute : goal.returns-in-Refute
 returns-in-Refute g c = rw c.in-Refute.is (rw c.search_of-search.ensures.claim at c.refute.ensures)
 
 pub returns-in-Verify : goal.returns-in-Verify
-returns-in-Verify g c = rw c.in-Verify.is (rw c.limits_of-limits.ensures.depth at c.verify.ensures)
+returns-in-Verify g c = rw c.in-Verify.is (rw (c.limits_of-limits.ensures.depth, c.limits_of-limits.ensures.tries.0) at c.verify.ensures)
 
 pub returns-in-Trace : goal.returns-in-Trace
 returns-in-Trace g c = rw c.in-Trace.is c.trace.ensures

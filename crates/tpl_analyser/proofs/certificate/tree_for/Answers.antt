@@ -1,23 +1,38 @@
-use Rattle.tpl_model.specs.declared.rule_set.RuleSet.TheVariants.{Narrow}
-use Rattle.std.proofs.Common.{false, ◌≤◌, IfOk, IfSome, ap, ◌∙◌, subst}
+use Rattle.std.proofs.Common.{◌≡◌, ◌∙◌, [], true, IfOk, IfSome, ap, subst, sym}
 use Rattle.tpl_model.specs.declared.ids.TaskId.{TaskId}
 use Rattle.tpl_model.specs.declared.claim.Property.{Property}
+use Rattle.tpl_model.specs.declared.rule_set.RuleSet.{RuleSet}
+use Rattle.tpl_model.specs.declared.rule_set.RuleSet.TheVariants.{WithoutTokens, WithTokens}
 use Rattle.tpl_model.specs.Certificate.{Assumed, assumed_for}
-use Rattle.tpl_trees.specs.WideHeights.{wide_height}
 use Rattle.tpl_checker.specs.Assumptions.{assumed_of}
+use Rattle.tpl_token_leaf.specs.Leaf.{leaf_assumed}
 use Rattle.tpl_analyser.specs.Found.{IsFound}
-use Rattle.tpl_analyser.specs.Plans.{IsPlan}
-use Rattle.tpl_analyser.proofs.FoundLemmas.{found_deeper, if_found}
+use Rattle.tpl_analyser.specs.FoundFor.{IsFoundFor}
+use Rattle.tpl_analyser.specs.TokenFound.{IsFoundWithTokens}
 use Rattle.tpl_analyser.proofs.certificate.tree_for.Goals as goal
 
-pub returns-in-Some : goal.returns-in-Some
-returns-in-Some over c =
+pub returns-in-WithoutTokens : goal.returns-in-WithoutTokens
+returns-in-WithoutTokens over c =
     let g = c.args.graph.now.graph in
-    let n = wide_height c.in-Some.plan in
-    let l = assumed_of c.root-root.result.premises.assumptions in
-    let planned : IfSome c.in_ok-deepened.field-0 (IsPlan g c.args.depth) = c.in_ok-deepened.ensures in
-    let le : n ≤ c.args.depth = (rw c.in-Some.is at planned).height in
-    let deep = if_found (IsFound g c.body-2.result c.args.form l n) (IsFound g c.body-2.result c.args.form l c.args.depth)
-    (λ t f. found_deeper g c.body-2.result c.args.form l n c.args.depth t le f) c.grown.result c.grown.ensures in
-    subst (λ (p : Property TaskId). IfOk c.grown.result (λ found. IfSome found (IsFound g p c.args.form (assumed_for Narrow g c.args.claim.now) c.args.depth))) c.body-2.ensures
-    (subst (λ (a : Assumed). IfOk c.grown.result (λ found. IfSome found (IsFound g c.body-2.result c.args.form a c.args.depth))) (ap assumed_of c.root-root.ensures ∙ c.assumed_for-assumed.ensures) deep)
+    let claim = c.args.claim.now in
+    let form = c.args.form in
+    let depth = c.args.depth in
+    let r = c.tree_without_tokens.result in
+    let assumed = c.assumed_for-assumed.result in
+    let same : assumed_of assumed ≡ assumed_for WithoutTokens g claim = c.assumed_for-assumed.ensures ∙ ap (λ (z : RuleSet). assumed_for z g claim) c.in-WithoutTokens.is in
+    let found = subst (λ (a : Assumed). IfOk r (λ found. IfSome found (IsFound g claim.body form a depth))) same
+    (subst (λ (p : Property TaskId). IfOk r (λ found. IfSome found (IsFound g p form (assumed_of assumed) depth))) c.body-2.ensures c.tree_without_tokens.ensures) in
+    subst (λ (z : RuleSet). IfOk r (λ found. IfSome found (IsFoundFor z g claim form depth))) (sym c.in-WithoutTokens.is) found
+
+pub returns-in-WithTokens : goal.returns-in-WithTokens
+returns-in-WithTokens over c =
+    let g = c.args.graph.now.graph in
+    let claim = c.args.claim.now in
+    let form = c.args.form in
+    let depth = c.args.depth in
+    let r = c.tree_with_tokens.result in
+    let assumed = c.assumed_for-assumed.result in
+    let same : assumed_of assumed ≡ assumed_for WithTokens g claim = c.assumed_for-assumed.ensures ∙ ap (λ (z : RuleSet). assumed_for z g claim) c.in-WithTokens.is in
+    let found = subst (λ (a : Assumed). IfOk r (λ found. IfSome found (IsFoundWithTokens g claim.body form (record { assumed = a; wins = λ n x. true }) depth))) same
+    (subst (λ (p : Property TaskId). IfOk r (λ found. IfSome found (IsFoundWithTokens g p form (leaf_assumed assumed []) depth))) c.body-2.ensures c.tree_with_tokens.ensures) in
+    subst (λ (z : RuleSet). IfOk r (λ found. IfSome found (IsFoundFor z g claim form depth))) (sym c.in-WithTokens.is) found

@@ -1,7 +1,7 @@
 use Rattle.std.proofs.Common.{◌∙◌, sym}
 use Rattle.std.proofs.lemmas.Result.{err_from_is_err_and}
 use Rattle.tpl_paths.specs.TokenSet.{has_token}
-use Rattle.tpl_trees.specs.WideCoding.{tokens_in}
+use Rattle.tpl_trees.specs.Coding.{tokens_in}
 use Rattle.tpl_cert.proofs.Tokens.{closed}
 use Rattle.tpl_cert.proofs.TokensWritten.{token_written, token_left_out, token_unwritten, all_tokens_known, all_tokens_written}
 use Rattle.tpl_cert.proofs.row_text.write_tokens.Goals as goal

@@ -18,3 +18,22 @@ returns-in_ok-end_object-in-SplitEnd t c =
         (ran.1.1, canceled.1.1, faulted.1.1),
       ),
     )
+
+pub returns-in_ok-end_object-in-SplitWinner : goal.returns-in_ok-end_object-in-SplitWinner
+returns-in_ok-end_object-in-SplitWinner t c =
+    let name = c.in_ok-name-in-SplitWinner.ensures.writes in
+    let other = c.in_ok-other-in-SplitWinner.ensures.writes in
+    let second = rw c.deref-in-SplitWinner.ensures at c.in_ok-write_tree-in-SplitWinner.ensures in
+    let winner = rw name.1 at c.in_ok-write_text-in-SplitWinner.ensures in
+    let task = rw other.1 at c.in_ok-write_text-in-SplitWinner-2.ensures in
+    let first = rw c.deref-in-SplitWinner-2.ensures at c.in_ok-write_tree-in-SplitWinner-2.ensures in
+    rw (c.node.ensures, c.in-SplitWinner.is) (
+      rw (name.0, other.0, first.0, second.0) refl,
+      (
+        (
+          c.end_object-in-SplitWinner.ensures.room.0 ∙ first.1.0.0 ∙ c.key-in-SplitWinner.ensures.room.0 ∙ task.0 ∙ winner.0 ∙ second.1.0.0 ∙ c.in_ok-open_object-in-SplitWinner.ensures.0,
+          rw (c.in_ok-end_object-in-SplitWinner.ensures.ok, first.1.0.1, c.in_ok-key-in-SplitWinner.ensures.ok, task.1, winner.1, second.1.0.1, c.in_ok-open_object-in-SplitWinner.ensures.1) (simp append_assoc),
+        ),
+        (first.1.1, second.1.1),
+      ),
+    )

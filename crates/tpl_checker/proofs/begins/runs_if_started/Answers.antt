@@ -1,7 +1,7 @@
 use Rattle.std.proofs.Common.{◌≡◌, Bool, ℕ, ap, ◌∙◌}
 use Rattle.tpl_model.specs.Recursion.{reaches}
 use Rattle.tpl_model.specs.Graph.{body}
-use Rattle.tpl_model.specs.Certificate.{row, view}
+use Rattle.tpl_model.specs.Certificate.{row, view, plain}
 use Rattle.tpl_laws.specs.RowTests.{implies, by_parent}
 use Rattle.tpl_checker.proofs.BodyLemmas.{started_of}
 use Rattle.tpl_checker.proofs.begins.runs_if_started.Goals as goal
@@ -9,7 +9,7 @@ use Rattle.tpl_checker.proofs.begins.runs_if_started.Goals as goal
 pub returns-in-Some : goal.returns-in-Some
 returns-in-Some c l b =
     let g = c.args.graph.now.graph in
-    let rows = c.args.rows.now in
+    let rows = (plain c.args.rows.now) in
     let t = c.args.task.0 in
     let p = c.in-Some.parent.0 in
     let test : ℕ → Bool = λ p. implies (row rows p).runs (implies (reaches t (view g l rows p) (body g p)) (row rows t).runs) in

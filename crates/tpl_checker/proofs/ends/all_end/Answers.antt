@@ -3,13 +3,14 @@ use Rattle.tpl_model.specs.Finals.{has}
 use Rattle.tpl_checker.specs.AllEnds.{with_argument}
 use Rattle.tpl_checker.proofs.AllEndLemmas.{by_all, by_next, by_none}
 use Rattle.tpl_checker.proofs.Basics.{drop_all, next_task}
+use Rattle.tpl_model.specs.Certificate.{plain}
 use Rattle.tpl_checker.proofs.ends.all_end.Goals as goal
 
 pub loop-arg-init : goal.loop-arg-init
-loop-arg-init c = by_none (length c.args.rows.now) c.args.rows.now c.args.args.now c.none-found.result c.requires c.none-found.ensures
+loop-arg-init c = by_none (length (plain c.args.rows.now)) (plain c.args.rows.now) c.args.args.now c.none-found.result c.requires c.none-found.ensures
 
 pub row-requires : goal.row-requires
-row-requires c = next_task c.args.args.now c.loop-arg.arg-index _ c.loop-arg-test.true (length c.args.rows.now) c.loop-arg.invariant.left
+row-requires c = next_task c.args.args.now c.loop-arg.arg-index _ c.loop-arg-test.true (length (plain c.args.rows.now)) c.loop-arg.invariant.left
 
 pub loop-arg-preserved : goal.loop-arg-preserved
 loop-arg-preserved c =

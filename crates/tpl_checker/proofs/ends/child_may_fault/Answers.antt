@@ -5,7 +5,7 @@ use Rattle.tpl_model.specs.Finals.{has}
 use Rattle.tpl_model.specs.Members.{mem}
 use Rattle.tpl_model.specs.Recursion.{reaches}
 use Rattle.tpl_model.specs.Graph.{attached, body, some_in}
-use Rattle.tpl_model.specs.Certificate.{row, view}
+use Rattle.tpl_model.specs.Certificate.{row, view, plain}
 use Rattle.tpl_graph.specs.Roles.{AreTasks}
 use Rattle.tpl_checker.proofs.Basics.{some_in_same}
 use Rattle.tpl_checker.proofs.ChildLemmas.{attached_within}
@@ -19,7 +19,7 @@ some_faults-requires c =
 pub returns : goal.returns
 returns c l b =
     let g = c.args.graph.now.graph in
-    let rows = c.args.rows.now in
+    let rows = (plain c.args.rows.now) in
     let t = c.args.task.0 in
     c.some_faults.ensures
     ∙ (ap (λ xs. some_in (λ x. mem x c.args.bodies.now.started && has (row rows x).ends Faulted) xs) c.attached.ensures

@@ -2,7 +2,7 @@ use Rattle.std.proofs.Common.{◌≡◌, ◌&&◌, ◌||◌, not, ap, ◌∙◌}
 use Rattle.tpl_model.specs.Finals.{has}
 use Rattle.tpl_model.specs.Options.{allows, lazy_cancellation}
 use Rattle.tpl_model.specs.Graph.{options}
-use Rattle.tpl_model.specs.Certificate.{row, is_loud}
+use Rattle.tpl_model.specs.Certificate.{row, is_loud, plain}
 use Rattle.tpl_laws.specs.RowTests.{some_end}
 use Rattle.tpl_checker.specs.Assumptions.{assumed_of}
 use Rattle.tpl_checker.proofs.Basics.{or_else_if, some_end_same}
@@ -12,7 +12,7 @@ pub returns-else-by_token : goal.returns-else-by_token
 returns-else-by_token c =
     let g = c.args.graph.now.graph in
     let l = assumed_of c.args.assumed.now in
-    let rows = c.args.rows.now in
+    let rows = (plain c.args.rows.now) in
     let t = c.args.task.0 in
     let ends : c.ends-ends.result ≡ (row rows c.args.antecedent.0).ends = c.ends-ends.ensures ∙ ap (λ r. r.ends) c.row.ensures in
     let lazy : c.lazy_cancellation.result ≡ lazy_cancellation (options g t) = c.lazy_cancellation.ensures ∙ ap lazy_cancellation c.options-options.ensures in

@@ -1,7 +1,7 @@
 use Rattle.std.proofs.Common.{◌∙◌, refl, sym}
 use Rattle.tpl_model.proofs.Truths.{true_false}
 use Rattle.tpl_checker.specs.Assumptions.{assumed_of}
-use Rattle.tpl_checker.proofs.AcceptedLemmas.{accepted, fitting}
+use Rattle.tpl_checker.proofs.AcceptedLemmas.{accepted, fitting, is_plain}
 use Rattle.tpl_checker.proofs.leaf.accepts_leaf.Goals as goal
 
 pub returns-then-rows-len : goal.returns-then-rows-len
@@ -15,10 +15,18 @@ returns-then-not-rows_fit c =
       λ a. true_false (sym (c.rows_fit.ensures ∙ fitting g c.args.property l c.args.rows.now c.valid_law.ensures.graph c.first_broken_is_right.ensures c.proves_is_right.ensures a) ∙ c.if-not-rows_fit.true),
     )
 
+pub returns-then-not-are_plain : goal.returns-then-not-are_plain
+returns-then-not-are_plain c =
+    let g = c.args.graph.now.graph in
+    let l = assumed_of c.args.assumed.now in (
+      λ f. true_false (sym f),
+      λ a. true_false (sym (c.are_plain.ensures ∙ is_plain g c.args.property l c.args.rows.now c.valid_law.ensures.graph c.first_broken_is_right.ensures c.proves_is_right.ensures a) ∙ c.if-not-are_plain.true),
+    )
+
 pub returns-in-None : goal.returns-in-None
 returns-in-None c =
     let g = c.args.graph.now.graph in
     let l = assumed_of c.args.assumed.now in (
-      λ t. accepted g c.args.property l c.args.rows.now c.valid_law.ensures.graph c.first_broken_is_right.ensures c.proves_is_right.ensures (c.if-rows-len.false ∙ c.len.ensures.count) (sym c.rows_fit.ensures ∙ c.if-not-rows_fit.false) (sym c.in-None.ensures),
+      λ t. accepted g c.args.property l c.args.rows.now c.valid_law.ensures.graph c.first_broken_is_right.ensures c.proves_is_right.ensures (c.if-rows-len.false ∙ c.len.ensures.count) (sym c.rows_fit.ensures ∙ c.if-not-rows_fit.false) (sym c.are_plain.ensures ∙ c.if-not-are_plain.false) (sym c.in-None.ensures),
       λ a. refl,
     )

@@ -33,3 +33,6 @@ with_end-on_canceled-requires t c = small_task t (goal.at.with_end-on_canceled-r
 
 pub with_end-on_faulted-requires : goal.with_end-on_faulted-requires
 with_end-on_faulted-requires t c = small_task t (goal.at.with_end-on_faulted-requires t c).In-SplitEnd
+
+pub returns-in-Leaf-clause-fault : goal.returns-in-Leaf-clause-fault
+returns-in-Leaf-clause-fault t c = rw (c.node.ensures, c.in-Leaf.is) (rw c.deref-in-Leaf.ensures.value at c.leaf_at.ensures.fault)

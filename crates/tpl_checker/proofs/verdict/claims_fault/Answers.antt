@@ -1,4 +1,4 @@
-use Rattle.tpl_model.specs.declared.rule_set.RuleSet.TheVariants.{Narrow}
+use Rattle.tpl_model.specs.declared.rule_set.RuleSet.TheVariants.{WithoutTokens}
 use Rattle.std.proofs.Common.{◌≡◌, ◌+◌, ◌≤◌, ap, sym, subst, ◌∙◌, arith, slice_index_or}
 use Rattle.std.proofs.lemmas.Result.{err_from_is_err_and}
 use Rattle.tpl_model.specs.Certificate.{Tree, assumed_for}
@@ -21,7 +21,7 @@ same_fault : (c : After-tree_fault) → tree_fault c.args.graph.now.graph c.body
     ≡ fault_of_claim c.args.graph.now.graph (c.loop-at.at + 1) (slice_index_or c.args.claims.now c.loop-at.at c.index-claims-at.result) (slice_index_or c.args.trees.now c.loop-at.at c.index-trees-at.result)
 same_fault c =
     λ i. tree_fault c.args.graph.now.graph ((c.body.ensures ∙ ap (λ z. z.body) c.index-claims-at.is) i) (c.loop-at.at + 1)
-    ((c.assumed_for-given.ensures ∙ ap (assumed_for Narrow c.args.graph.now.graph) c.index-claims-at.is) i) 1 (c.index-trees-at.is i)
+    ((c.assumed_for-given.ensures ∙ ap (assumed_for WithoutTokens c.args.graph.now.graph) c.index-claims-at.is) i) 1 (c.index-trees-at.is i)
 
 pub returns-in_err-tree_fault : goal.returns-in_err-tree_fault
 returns-in_err-tree_fault c =

@@ -1,7 +1,6 @@
-use Rattle.std.proofs.Common.{◌≡◌, map}
-use Rattle.tpl_model.specs.WiderRules.{as_wide_tree}
+use Rattle.std.proofs.Common.{◌≡◌}
 use Rattle.tpl_draw.specs.Endings.{endings}
 use Rattle.tpl_draw.proofs.ending.endings.Given as goal
 
 abbrev pub invariant-loop-task : goal.invariant-loop-task
-invariant-loop-task l = l.found.items ≡ endings (map as_wide_tree l.trees) l.task
+invariant-loop-task l = l.found.items ≡ endings l.trees l.task

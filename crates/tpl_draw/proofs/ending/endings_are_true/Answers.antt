@@ -2,4 +2,4 @@ use Rattle.tpl_draw.proofs.EndingLemmas.{endings_lem}
 use Rattle.tpl_draw.proofs.ending.endings_are_true.Goals as goal
 
 pub returns : goal.returns
-returns c = endings_lem c.rows_are_true.ensures c.some_leaf_agrees.ensures c.some_wide_leaf_is_true.ensures
+returns c = endings_lem c.some_leaf_is_true.ensures c.some_token_leaf_is_true.ensures

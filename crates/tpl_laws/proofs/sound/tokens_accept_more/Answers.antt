@@ -1,4 +1,4 @@
-use Rattle.tpl_laws.proofs.WideLaw.{tokens_accept_more_lem}
+use Rattle.tpl_laws.proofs.TokenLaw.{tokens_accept_more_lem}
 use Rattle.tpl_laws.proofs.sound.tokens_accept_more.Goals as goal
 
 pub returns : goal.returns

@@ -4,7 +4,7 @@ use Rattle.tpl_model.specs.Paths.{MayStartChild}
 use Rattle.tpl_model.specs.Recursion.{may, none, is_throw}
 use Rattle.tpl_model.specs.View.{known}
 use Rattle.tpl_model.specs.Graph.{body}
-use Rattle.tpl_model.specs.Certificate.{view}
+use Rattle.tpl_model.specs.Certificate.{view, plain}
 use Rattle.tpl_laws.specs.RowTests.{is_return, is_acknowledgement}
 use Rattle.tpl_checker.specs.Assumptions.{assumed_of}
 use Rattle.tpl_checker.proofs.BodyLemmas.{acknowledged_is, member_step, returned_is, started_step, thrown_is, with_body}
@@ -14,7 +14,7 @@ pub returns : goal.returns
 returns c first =
     let g = c.args.graph.now.graph in
     let l = assumed_of c.args.assumed.now in
-    let rows = c.args.rows.now in
+    let rows = (plain c.args.rows.now) in
     let t = c.args.task.0 in
     let w = known c.view-view.result in
     let script = c.body-body.result.now in

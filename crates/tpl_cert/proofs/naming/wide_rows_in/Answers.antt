@@ -1,8 +1,0 @@
-use Rattle.std.proofs.Common.{rules}
-use Rattle.tpl_json.proofs.Reading.{each_yields_same}
-use Rattle.tpl_cert.specs.Seen.{row_of}
-use Rattle.tpl_cert.specs.Naming.{wide_row_in}
-use Rattle.tpl_cert.proofs.naming.wide_rows_in.Goals as goal
-
-pub returns : goal.returns
-returns c = each_yields_same (λ k r. wide_row_in c.args.graph.now.names r) row_of c.read_each.ensures (λ n x r k. search rules)

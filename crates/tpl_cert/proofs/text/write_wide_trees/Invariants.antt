@@ -1,7 +1,0 @@
-use Rattle.tpl_model.specs.declared.rule_set.RuleSet.TheVariants.{Wide}
-use Rattle.tpl_cert.specs.Written.{has_ids, tree_data, HasSets}
-use Rattle.tpl_cert.proofs.Tokens.{AreWritten}
-use Rattle.tpl_cert.proofs.text.write_wide_trees.Given as goal
-
-abbrev pub invariant-loop-tree : goal.invariant-loop-tree
-invariant-loop-tree l = AreWritten (λ t. t) (has_ids l.graph.names) HasSets (tree_data Wide l.graph.names) l.trees l.tree-index l.initial.out l.out

@@ -1,4 +1,0 @@
-use Rattle.tpl_draw.proofs.wide_ending.+ends_in_tree.Given as goal
-
-abbrev pub decreases-ends_in_tree : goal.decreases-ends_in_tree
-decreases-ends_in_tree l = goal.size-ends_in_tree l

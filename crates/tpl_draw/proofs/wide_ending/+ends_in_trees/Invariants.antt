@@ -1,5 +1,0 @@
-use Rattle.std.proofs.Common.{length}
-use Rattle.tpl_draw.proofs.wide_ending.+ends_in_trees.Given as goal
-
-abbrev pub decreases-ends_in_trees : goal.decreases-ends_in_trees
-decreases-ends_in_trees l = length l.claims.now

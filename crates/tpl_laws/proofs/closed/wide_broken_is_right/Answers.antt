@@ -1,5 +1,0 @@
-use Rattle.tpl_laws.proofs.WiderDecided.{wide_broken_lem}
-use Rattle.tpl_laws.proofs.closed.wide_broken_is_right.Goals as goal
-
-pub returns : goal.returns
-returns c g l rows t valid = wide_broken_lem g l rows t valid c.path_laws.ensures

@@ -1,8 +1,0 @@
-use Rattle.std.proofs.Common.{ap, ◌∙◌}
-use Rattle.tpl_model.specs.WiderRules.{with_winners}
-use Rattle.tpl_laws.specs.WiderTests.{is_won_by}
-use Rattle.tpl_leaf.specs.Leaf.{assumed_in}
-use Rattle.tpl_leaf.proofs.chain.is_won_by.Goals as goal
-
-pub returns-in-Any : goal.returns-in-Any
-returns-in-Any c = c.is_only_winner.ensures ∙ ap (λ k. is_won_by (with_winners ((assumed_in c.args.leaf.now).wins c.args.task.0) k) c.args.argument.0) c.in-Any.ensures.kind

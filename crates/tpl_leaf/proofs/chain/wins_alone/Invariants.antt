@@ -1,6 +1,0 @@
-use Rattle.tpl_leaf.specs.Leaf.{assumed_in}
-use Rattle.tpl_leaf.proofs.WideChainLemmas.{AloneSoFar}
-use Rattle.tpl_leaf.proofs.chain.wins_alone.Given as goal
-
-abbrev pub invariant-loop-arg : goal.invariant-loop-arg
-invariant-loop-arg l = AloneSoFar ((assumed_in l.leaf).wins l.task.0) l.argument.0 l.args l.arg-index

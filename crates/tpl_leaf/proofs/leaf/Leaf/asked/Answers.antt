@@ -1,6 +1,0 @@
-use Rattle.std.proofs.Common.{ap, ◌∙◌}
-use Rattle.tpl_model.specs.Members.{mem}
-use Rattle.tpl_leaf.proofs.leaf.Leaf.asked.Goals as goal
-
-pub returns : goal.returns
-returns c k = c.asked.ensures.members k ∙ ap (λ r. mem k r.asked) c.wide_row.ensures

@@ -1,0 +1,10 @@
+pub mod TokenShapeLemmas
+pub mod ShapeTests
+pub mod TokenTreeLemmas
+pub mod RowLemmas
+pub mod WithinLemmas
+pub mod LeastFits
+pub mod StepLemmas
+pub mod ReaderLemmas
+pub mod LevelLemmas
+pub mod UnsplitLemmas

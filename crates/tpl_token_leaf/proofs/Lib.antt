@@ -1,0 +1,14 @@
+pub mod Rows
+pub mod Children
+pub mod MatchedKinds
+pub mod LinkLemmas
+pub mod Readings
+pub mod WayLemmas
+pub mod EndLemmas
+pub mod Winning
+pub mod NarrowLemmas
+pub mod TaskSets
+pub mod FactTests
+pub mod PastLemmas
+pub mod TokenChainLemmas
+pub mod TokenLeafLemmas

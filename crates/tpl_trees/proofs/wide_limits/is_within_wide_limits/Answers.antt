@@ -1,8 +1,0 @@
-use Rattle.tpl_trees.proofs.WithinLimits.{wide_then, wide_else}
-use Rattle.tpl_trees.proofs.wide_limits.is_within_wide_limits.Goals as goal
-
-pub returns-then-is_no_higher-clause-test : goal.returns-then-is_no_higher-clause-test
-returns-then-is_no_higher-clause-test c = wide_then c.is_no_higher.result c.has_short_chains.result c.args.tree.now c.is_no_higher.ensures c.has_short_chains.ensures c.if-is_no_higher.true
-
-pub returns-else-is_no_higher-clause-test : goal.returns-else-is_no_higher-clause-test
-returns-else-is_no_higher-clause-test c = wide_else c.is_no_higher.result c.args.tree.now c.is_no_higher.ensures c.if-is_no_higher.false

@@ -1,6 +1,0 @@
-use Rattle.std.proofs.Common.{◌≡◌, replicate}
-use Rattle.tpl_laws.specs.LeastRows.{blank_row}
-use Rattle.tpl_wide.proofs.rows.Rows.blank.Given as goal
-
-abbrev pub invariant-loop : goal.invariant-loop
-invariant-loop l = l.rows.items ≡ replicate l.counter blank_row

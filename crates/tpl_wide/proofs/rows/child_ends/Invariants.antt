@@ -1,7 +1,0 @@
-use Rattle.std.proofs.Common.{◌≡◌, map, take}
-use Rattle.tpl_paths.specs.Reading.{end_of}
-use Rattle.tpl_leaf.specs.Leaf.{row_end}
-use Rattle.tpl_wide.proofs.rows.child_ends.Given as goal
-
-abbrev pub invariant-loop-row : goal.invariant-loop-row
-invariant-loop-row l = map end_of l.ends.items ≡ map row_end (take l.row-index l.rows)

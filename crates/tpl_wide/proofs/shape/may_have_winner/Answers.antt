@@ -1,6 +1,0 @@
-use Rattle.std.proofs.Common.{ap, ◌∙◌}
-use Rattle.tpl_laws.specs.WideVerdict.{may_have_winner}
-use Rattle.tpl_wide.proofs.shape.may_have_winner.Goals as goal
-
-pub returns-in-Any : goal.returns-in-Any
-returns-in-Any c = c.is_member.ensures ∙ ap (λ k. may_have_winner k c.args.argument.0) c.in-Any.ensures.kind

@@ -1,7 +1,0 @@
-use Rattle.std.proofs.Common.{◌≡◌, drop}
-use Rattle.tpl_model.specs.WiderRules.{plain}
-use Rattle.tpl_laws.specs.Verdict.{rows_fit}
-use Rattle.tpl_wide.proofs.shape.rows_fit.Given as goal
-
-abbrev pub invariant-loop-row : goal.invariant-loop-row
-invariant-loop-row l = rows_fit l.graph.graph (plain l.rows) ≡ rows_fit l.graph.graph (plain (drop l.row-index l.rows))

@@ -1,6 +1,0 @@
-use Rattle.tpl_leaf.specs.Leaf.{graph_of, assumed_in}
-use Rattle.tpl_wide.proofs.LevelLemmas.{LevelsSoFar}
-use Rattle.tpl_wide.proofs.shortest.shortest_chain.Given as goal
-
-abbrev pub invariant-loop : goal.invariant-loop
-invariant-loop l = LevelsSoFar (graph_of l.leaf) (assumed_in l.leaf) l.task.0 l.counter l.levels.items l.level
