@@ -101,6 +101,21 @@ const AUDIT_WORDS = {
 };
 const SPLITS_WORDS = (splits) =>
   splits ? `The certificate has at most ${counted(splits, "split")} on a path.` : "The certificate has one case.";
+// Where a case of a certificate speaks, and what its rows say of the claim's tasks.
+const CASES = {
+  end: "{task} ends {status} or not at all",
+  first: "{other} is the first of {task}",
+  notFirst: "{other} isn't the first of {task}",
+  settled: "{other} is settled when {task} begins",
+  reads: "{other} reads the exception of {task}",
+  neverBegins: "{task} never begins",
+  neverEnds: "{task} never ends",
+  mayEnd: "{task} may end {ways}",
+};
+const CASES_WORDS = (count, isLeast) =>
+  [count > 1 && "Each run is in one of these cases, and the claim holds in each.", isLeast && "The check works out why."]
+    .filter(Boolean)
+    .join(" ");
 
 // What a task is.
 const TASK_KINDS = {
@@ -155,6 +170,7 @@ const WORDS = {
   noClaim: "no claim",
   claim: (number, verdict) => ` claim ${number} ${verdict}`,
   size: () => `${counted(tasks.length, "task")} · ${counted(claims.length, "claim")}`,
+  cases: "The cases of the certificate",
   wrong: "What goes wrong",
   causes: "How it came to this",
   folded: (count) => `${counted(count, "step")} before, in which tasks ran`,

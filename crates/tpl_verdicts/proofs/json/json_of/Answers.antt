@@ -10,5 +10,5 @@ returns c =
     let all = c.args.all.now in
     let ds = map view c.in_ok-values.values.items in
     let value = c.in_ok-whole_value.ensures in
-    let shallow = subst (λ (d : Data). depth d ≤ 127) (sym value) (whole_depth all.graph.now.names (all_told all) all.verdicts.now ds c.in_ok-values.ensures) in
+    let shallow = subst (λ (d : Data). depth d ≤ 127) (sym value) (whole_depth all.searched.rules all.graph.now.names (all_told all) c.in_ok-words.words.items ds c.in_ok-values.ensures) in
     (ds, string_bytes c.in_ok-text.text, c.in_ok-values.ensures, c.in_ok-text.ensures.reads_back shallow ∙ ap (λ (d : Data). Some d) value, c.in_ok-push_str.ensures.bytes)
