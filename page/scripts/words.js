@@ -104,7 +104,7 @@ const SPLITS_WORDS = (splits) =>
 // Where a case of a certificate speaks, and what its rows say of the claim's tasks.
 const CASES = {
   end: "{task} ends {status} or not at all",
-  first: "{other} is the first of {task}",
+  first: "no other than {other} is the first of {task}",
   notFirst: "{other} isn't the first of {task}",
   settled: "{other} is settled when {task} begins",
   reads: "{other} reads the exception of {task}",
