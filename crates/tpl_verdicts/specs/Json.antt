@@ -1,13 +1,13 @@
 -- The verdicts as a JSON value.
-use Rattle.std.specs.Prelude.{◌≡◌, ℕ, Option, Some, None, Ok, List, [], ◌∷◌, ◌++◌, codes, length, map, string_bytes}
+use Rattle.std.specs.Prelude.{◌≡◌, ℕ, Option, Some, None, List, [], ◌∷◌, ◌++◌, codes, length, map, string_bytes}
 use Rattle.serde_json.specs.Data.{Data, Members, array, boolean, member, no_members, number, object, put, string, unsigned}
 use Rattle.serde_json.specs.Read.{read}
 use Rattle.serde_json.specs.View.{items_of}
 use Rattle.tpl_model.specs.declared.rule_set.RuleSet.{RuleSet}
 use Rattle.tpl_model.specs.Certificate.{Tree}
 use Rattle.tpl_model.specs.Claims.{Claim}
-use Rattle.tpl_cert.specs.Spelled.{read_tree}
 use Rattle.tpl_cert.specs.Written.{tree_data}
+use Rattle.tpl_reader.specs.Laws.{IsReadBack}
 use Rattle.tpl_draft.specs.Named.{Names}
 use Rattle.tpl_journal.specs.Lines.{lines, task_name}
 use Rattle.tpl_causes.specs.Causes.{AreCauses}
@@ -62,11 +62,7 @@ IsRunData names run d =
     (inputs : Members) × AreFirst names.inputs run.inputs (length names.inputs) inputs
     × (d ≡ object (member (codes "events") (number_data (length run.events.items)) (member (codes "inputs") (object inputs) (member (codes "journal") (string (lines names run.events.items)) no_members))))
 
--- a tree is written as in a document, and is read as that tree there
-abbrev pub IsReadBack : RuleSet → Names → Tree → Type 0
-IsReadBack rules names tree = read_tree rules names (tree_data rules names tree) ≡ Ok tree
-
--- the value is that of the certificate's only tree, as a document has it among its certificates
+-- the value is the one that is written for the certificate's only tree in a document, where it is read as that tree
 pub record IsTreeData (rules : RuleSet) (names : Names) (certificate : List Tree) (d : Data) : Type 0 where
   pub tree : Tree
   pub only : certificate ≡ tree ∷ []

@@ -6,10 +6,11 @@ ghost use Rattle.serde_json.specs.Data.{Data, array};
 ghost use Rattle.serde_json.specs.Read.{read};
 ghost use Rattle.serde_json.specs.View.{items_of, view};
 ghost use Rattle.tpl_cert.specs.Prelude.{certificate_data, has_ids};
+ghost use Rattle.tpl_commands.specs.Prelude.{IsRead};
 ghost use Rattle.tpl_model.specs.Prelude.{IsPlain, Tree};
 ghost use Rattle.tpl_model.specs.declared.rule_set.RuleSet.TheVariants.{WithoutTokens};
 ghost use Rattle.tpl_trees.specs.Prelude.{IsWithinLimits};
-ghost use Rattle.tpl_verdicts.specs.Prelude.{IsReadBack, IsTreeData};
+ghost use Rattle.tpl_verdicts.specs.Prelude.{IsTreeData};
 ghost use Rattle.tpl_verify.specs.Prelude.{IsCertified};
 
 use serde_json::Value;
@@ -43,7 +44,7 @@ fn array_text(
     requires within { All IsWithinLimits trees.now }
     ensures value { IfOk result (λ text.
         read (string_bytes text) ≡ Some (certificate_data rules graph.now.names trees.now)) }
-    ensures back { IfOk result (λ _. All (IsReadBack rules graph.now.names) trees.now) }
+    ensures read { IfOk result (λ _. All (IsRead rules graph.now.names) trees.now) }
 {
     written(trees_text(alloc, graph, rules, trees))
 }
@@ -60,7 +61,7 @@ fn trees_value(
     requires within { All IsWithinLimits trees.now }
     ensures value { IfOk result (λ v.
         view v ≡ certificate_data rules graph.now.names trees.now) }
-    ensures back { IfOk result (λ _. All (IsReadBack rules graph.now.names) trees.now) }
+    ensures read { IfOk result (λ _. All (IsRead rules graph.now.names) trees.now) }
 {
     let text = array_text(alloc, graph, rules, trees)?;
     match Value::from_str(alloc, text.as_str()) {
