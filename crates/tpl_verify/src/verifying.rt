@@ -56,10 +56,12 @@ fn certified_or_tried(
 {
     let mut budget = Budget::new(Unwatched, limits.leaves);
     match certify(question, &mut budget) {
-        Ok(Certified {
-            certificate,
-            splits,
-        }) => Ok(Verdict::Holds {
+        Ok(
+            Certified {
+                certificate,
+                splits,
+            },
+        ) => Ok(Verdict::Holds {
             certificate,
             splits,
             empty: None,
@@ -117,10 +119,12 @@ pub fn judge_claim(
     };
     let mut glance = Budget::new(Unwatched, limits.glance());
     match certify(&question, &mut glance) {
-        Ok(Certified {
-            certificate,
-            splits,
-        }) => Ok(Verdict::Holds {
+        Ok(
+            Certified {
+                certificate,
+                splits,
+            },
+        ) => Ok(Verdict::Holds {
             certificate,
             splits,
             empty: None,
