@@ -114,7 +114,8 @@ fn answer_of(
 {
     let all = judgements_of(document, verdicts, limits);
     let text = styled(alloc, style, bytes, &all)?;
-    let exit = exit_of(&words_of(alloc, verdicts)?);
+    let words = words_of(alloc, verdicts)?;
+    let exit = exit_of(&words);
     let (answer, finding) = (Answer { exit, text }, None);
     Ok(Answered { answer, finding })
 }

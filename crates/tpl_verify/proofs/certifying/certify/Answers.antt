@@ -1,3 +1,4 @@
+use Rattle.std.proofs.Common.{ℕ, ◌≤◌, subst}
 use Rattle.tpl_verify.proofs.VerdictLemmas.{always, certified, one_tree, shallow}
 use Rattle.tpl_verify.proofs.certifying.certify.Goals as goal
 
@@ -12,7 +13,8 @@ returns-clause-certified c =
 pub returns-clause-shallow : goal.returns-clause-shallow
 returns-clause-shallow c =
     let one = one_tree c.args.question.now.rules c.args.question.now.graph.now.graph c.args.question.now.claim.now c.from_ref-alone.result.now c.in_ok-certificate.certificate c.from_ref-alone.ensures.value c.in_ok-certificate.ensures.accepted in
-    shallow c.in_ok-certificate.certificate c.splits_in-splits.result c.args.question.now.depth one c.splits_in-splits.ensures c.in_ok-certificate.ensures.splits
+    subst (λ (depth : ℕ). c.splits_in-splits.result ≤ depth) c.splits-depth.ensures.value
+    (shallow c.in_ok-certificate.certificate c.splits_in-splits.result c.splits-depth.result one c.splits_in-splits.ensures c.in_ok-certificate.ensures.splits)
 
 pub returns-clause-always : goal.returns-clause-always
 returns-clause-always c =
