@@ -2,6 +2,7 @@
 
 mod ask;
 mod bytes;
+mod cycle;
 mod form;
 mod graph;
 mod misfit;

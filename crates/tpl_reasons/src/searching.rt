@@ -92,15 +92,21 @@ pub fn tried_words(alloc: Global, depth: Depth, ran_out: RanOut) -> Result<Strin
     }
 }
 
+/// What is said where the rules of a newer version may prove more.
+const NEWER: &str = "the rules of version 3 prove more: say `\"version\": 3`\n";
+
 /// What may be tried next for a claim.
-fn next_text(alloc: Global, ran_out: RanOut, depth: Depth) -> Said {
+fn next_text(alloc: Global, rules: RuleSet, ran_out: RanOut, depth: Depth) -> Said {
+    let newer = match rules {
+        RuleSet::WithoutTokens => NEWER,
+        RuleSet::WithTokens => "",
+    };
     match ran_out {
         RanOut::Depth if depth.splits() < MOST_SPLITS => format!(in alloc;
-            "a claim that isn't found may be true: try a greater `--depth`, at most {MOST_SPLITS}, or `refute`, which looks for a run in which a claim fails\n"
+            "a claim that isn't found may be true: try a greater `--depth`, at most {MOST_SPLITS}, or `verify`, which shows a run in which the claim fails if it finds one\n{newer}"
         ),
-        _ => String::from_str(
-            alloc,
-            "a claim that isn't found may be true: `refute` looks for a run in which a claim fails\n",
+        _ => format!(in alloc;
+            "a claim that isn't found may be true: `verify` shows a run in which it fails if it finds one\n{newer}"
         ),
     }
 }
@@ -123,7 +129,7 @@ fn missed_text(
         None => String::new(alloc),
     };
     let each = each_text(alloc, document, depth, number)?;
-    let next = next_text(alloc, ran_out, depth)?;
+    let next = next_text(alloc, rules_of(document), ran_out, depth)?;
     format!(in alloc; "{claim}: {tried}\n{obstacle}{each}{next}")
 }
 

@@ -34,40 +34,140 @@ fn line_and_column(bytes: &[u8], at: usize) -> (usize, usize) {
     (line, column)
 }
 
-/// Whether these bytes, of which each could be read, are a whole list or object, and maybe blanks.
-fn is_whole(front: &[u8]) -> bool {
-    let mut open: usize = 0;
-    let (mut in_text, mut escaped, mut last) = (false, false, b' ');
-    for byte in front {
-        match *byte {
-            _ if escaped => escaped = false,
-            b'\\' if in_text => escaped = true,
-            b'"' => in_text = !in_text,
-            b'{' | b'[' if !in_text => open = open.saturating_add(1),
-            b'}' | b']' if !in_text => open = open.saturating_sub(1),
-            _ => {}
-        }
-        if !byte.is_ascii_whitespace() {
-            last = *byte;
+/// What stands before the byte at which the reading of a text stopped.
+#[derive(Drop)]
+struct Front {
+    /// The brackets that are open, the innermost last.
+    open: Vec<u8>,
+    /// Whether a bracket closes another than the one that was opened last.
+    is_crossed: bool,
+    /// Whether a text is open.
+    in_text: bool,
+    /// The last byte that isn't blank, and the one before it; a blank where there is none.
+    last: u8,
+    before: u8,
+}
+
+/// Whether a value, or a name of a member, may end with this byte.
+fn ends_value(byte: u8) -> bool {
+    matches!(byte, b'"' | b'}' | b']') || byte.is_ascii_alphanumeric()
+}
+
+/// Whether a value, or a name of a member, may begin with this byte.
+fn begins_value(byte: u8) -> bool {
+    matches!(byte, b'"' | b'{' | b'[' | b'-') || byte.is_ascii_alphanumeric()
+}
+
+impl Front {
+    /// Nothing yet.
+    fn new(alloc: Global) -> Front {
+        Front {
+            open: Vec::new(alloc),
+            is_crossed: false,
+            in_text: false,
+            last: b' ',
+            before: b' ',
         }
     }
-    open == 0 && (last == b'}' || last == b']')
+
+    /// Goes on by a byte outside of texts.
+    fn pass(&mut self, byte: u8) -> Result<(), AllocError> {
+        match byte {
+            b'"' => self.in_text = true,
+            b'{' | b'[' => self.open.push(byte)?,
+            b'}' => self.is_crossed = self.open.pop() != Some(b'{'),
+            b']' => self.is_crossed = self.open.pop() != Some(b'['),
+            _ => {}
+        }
+        Ok(())
+    }
+
+    /// That of these bytes, each of which could be read.
+    fn of(alloc: Global, bytes: &[u8]) -> Result<Front, AllocError> {
+        let mut front = Front::new(alloc);
+        let mut escaped = false;
+        for byte in bytes {
+            match *byte {
+                _ if escaped => escaped = false,
+                b'\\' if front.in_text => escaped = true,
+                b'"' if front.in_text => front.in_text = false,
+                _ if front.in_text => {}
+                other => front.pass(other)?,
+            }
+            if !byte.is_ascii_whitespace() {
+                front.before = front.last;
+                front.last = *byte;
+            }
+        }
+        Ok(front)
+    }
+
+    /// What is wrong with the last byte, which the reader passes before it finds that it can't stand there; empty where
+    /// nothing is.
+    fn last_slip(&self) -> &'static str {
+        match (self.before, self.last) {
+            _ if self.in_text => "",
+            _ if self.is_crossed => {
+                "the bracket before this closes another than the one opened last: [ is closed by ], and { by }"
+            }
+            (b':', b'}' | b']' | b',') => "a value is missing before this, behind the colon",
+            (_, b'}' | b']') if self.open.is_empty() => {
+                "the document has ended before this; a command reads one document"
+            }
+            _ => "",
+        }
+    }
+
+    /// What is wrong with the byte that doesn't go on here, where it and the one before it tell; else empty.
+    fn slip(&self, here: u8) -> &'static str {
+        match (self.last, here) {
+            (b',', b']' | b'}') => "JSON has no comma before ] or }: take out the one before this",
+            (_, b'/' | b'#') => "JSON has no comments: take it out, or write it as a `note`",
+            (_, b'\'') => "JSON has no single quotes: names and texts stand in double quotes",
+            (last, b'"') if !ends_value(last) => {
+                "this text isn't closed by \", or has what can't stand in one: a line break is \\n there, a tab \\t, and \\ itself \\\\"
+            }
+            (last, byte) if ends_value(last) && begins_value(byte) => {
+                "a comma or a colon is missing before this"
+            }
+            (_, b',' | b':') => "a value is missing before this",
+            (_, byte) if byte.is_ascii_alphabetic() => {
+                "names and texts stand in double quotes; the only words without are true, false and null"
+            }
+            _ => "this is not valid JSON",
+        }
+    }
+
+    /// What is missing where the text ends here.
+    fn missing(&self, alloc: Global) -> Result<String, AllocError> {
+        match (self.in_text, self.open.len()) {
+            (true, _) => String::from_str(
+                alloc,
+                "the text ends too early: a name or a text isn't closed by \"",
+            ),
+            (false, 0) => String::from_str(alloc, "the text ends too early"),
+            (false, 1) => String::from_str(
+                alloc,
+                "the text ends too early: a bracket isn't closed, [ by ] or { by }",
+            ),
+            (false, open) => format!(in alloc;
+                "the text ends too early: {open} brackets aren't closed, [ by ] or {{ by }}"
+            ),
+        }
+    }
 }
 
 /// What is wrong where the reading of a text stopped, at this byte.
 fn says_why(alloc: Global, bytes: &[u8], at: usize) -> Result<String, AllocError> {
-    let said = match bytes.get(..at) {
-        _ if at >= bytes.len() => "the text ends too early",
-        Some(front) if is_whole(front) => {
-            "the document has ended before this; a command reads one document"
-        }
-        _ => {
-            return format!(in alloc;
-                "this is not valid JSON; JSON has no comments, no single quotes, no comma before ] or }}, and here at most {MOST_NESTED} levels"
-            );
-        }
-    };
-    String::from_str(alloc, said)
+    let front = Front::of(alloc, bytes.get(..at).unwrap_or(bytes))?;
+    if front.open.len() >= MOST_NESTED {
+        return format!(in alloc; "lists and objects nest {MOST_NESTED} levels deep at most");
+    }
+    match (front.last_slip(), bytes.get(at)) {
+        ("", None) => front.missing(alloc),
+        ("", Some(here)) => String::from_str(alloc, front.slip(*here)),
+        (slip, _) => String::from_str(alloc, slip),
+    }
 }
 
 /// What is said of a text whose reading stopped at this byte.

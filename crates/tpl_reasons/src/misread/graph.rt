@@ -130,10 +130,18 @@ impl<'v, 't> Teller<'v, 't> {
 
     /// The line about a text that is no name.
     fn bad_name_line(self, area: Area) -> Line {
-        let said = format!(in self.alloc;
-            "is not a name: a name (label, site) is 1 to {LONGEST_NAME} ASCII letters, digits or _, and doesn't begin with a digit"
-        )?;
-        self.tell(area, Ask::BadName, 0, said.as_str())
+        let Some(spot) = self.find(area, Ask::BadName, 0)? else {
+            return Ok(None);
+        };
+        let count = text_at(&spot).len();
+        let said = if count > LONGEST_NAME {
+            format!(in self.alloc; "has {count} bytes, and a name has {LONGEST_NAME} at most")?
+        } else {
+            format!(in self.alloc;
+                "is not a name: a name (label, site) is 1 to {LONGEST_NAME} ASCII letters, digits or _, and doesn't begin with a digit"
+            )?
+        };
+        self.line_about(area, &spot, said.as_str())
     }
 
     fn too_many_line(self, area: Area) -> Line {
@@ -176,21 +184,37 @@ impl<'v, 't> Teller<'v, 't> {
         }
     }
 
+    /// What is said of an element of a list that isn't declared before the one of this number.
+    fn says_later(self, list: &str, index: usize, found: usize) -> Result<String, AllocError> {
+        if found == index {
+            return format!(in self.alloc;
+                "is {list}[{index}] itself; name one that is declared before it"
+            );
+        }
+        let cycle = match list {
+            "tasks" => self.cycle(index, found)?,
+            _ => None,
+        };
+        match cycle {
+            Some(cycle) => {
+                let names = listed(self.alloc, &cycle)?;
+                format!(in self.alloc;
+                    "closes a cycle: of {names} each waits for the next, and the last for the first"
+                )
+            }
+            None => format!(in self.alloc;
+                "is {list}[{found}], which is declared later; move it before {list}[{index}]"
+            ),
+        }
+    }
+
     /// The line about a name in the part that isn't declared before the number.
     fn later_line(self, list: &str, area: Area, index: usize) -> Line {
         let Some(spot) = self.find(area, Ask::Later(index), 0)? else {
             return Ok(None);
         };
         let found = place(self.document, list, text_at(&spot));
-        let said = if found == index {
-            format!(in self.alloc;
-                "is {list}[{index}] itself; name one that is declared before it"
-            )?
-        } else {
-            format!(in self.alloc;
-                "is {list}[{found}], which is declared later; move it before {list}[{index}]"
-            )?
-        };
+        let said = self.says_later(list, index, found)?;
         self.line_about(area, &spot, said.as_str())
     }
 
