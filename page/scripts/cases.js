@@ -11,8 +11,8 @@ function caseElements(tree, claim) {
   const list = html("ol", { class: "cases" }, parts);
   const isLong = cases.length > OPEN_CASES;
   return [
-    html("h3", {}, WORDS.cases),
-    html("p", { class: "tells" }, CASES_WORDS(cases.length, cases.some(({ rows }) => !rows))),
+    html("h3", {}, WORDS.certificate),
+    cases.length > 1 && html("p", { class: "tells" }, CASES_WORDS(cases.some(({ rows }) => !rows))),
     isLong ? html("details", {}, html("summary", {}, counted(cases.length, "case")), list) : list,
   ];
 }

@@ -112,10 +112,8 @@ const CASES = {
   neverEnds: "{task} never ends",
   mayEnd: "{task} may end {ways}",
 };
-const CASES_WORDS = (count, isLeast) =>
-  [count > 1 && "Each run is in one of these cases, and the claim holds in each.", isLeast && "The check works out why."]
-    .filter(Boolean)
-    .join(" ");
+const CASES_WORDS = (isLeast) =>
+  `Each run is in one of these cases, and the claim holds in each${isLeast ? ": the check works out why" : ""}.`;
 
 // What a task is.
 const TASK_KINDS = {
@@ -170,7 +168,7 @@ const WORDS = {
   noClaim: "no claim",
   claim: (number, verdict) => ` claim ${number} ${verdict}`,
   size: () => `${counted(tasks.length, "task")} · ${counted(claims.length, "claim")}`,
-  cases: "The cases of the certificate",
+  certificate: "The certificate",
   wrong: "What goes wrong",
   causes: "How it came to this",
   folded: (count) => `${counted(count, "step")} before, in which tasks ran`,
