@@ -2,8 +2,9 @@
 
 verdicts/claims.toml has claims of which it was worked out by hand whether they hold. Of claims about graphs that are drawn
 by chance the verdicts agree with `analyse`, `check`, `refute` and `audit`, claim by claim. `check` accepts the trees of the
-claims that hold as a certificate of these claims. The same words give the same bytes for every number of jobs. The JSON is valid by schema/verify.schema.json and the JUnit by verdicts/junit.xsd, both
-say what the text says, and each run that is given is one in which the claim fails.
+claims that hold as a certificate of these claims. The same words give the same bytes for every number of jobs. The JSON is
+valid by schema/verify.schema.json and the JUnit by verdicts/junit.xsd, both say what the text says, and each run that is
+given is one in which the claim fails.
 
 As text, the lines for a claim can be read before the next one has its verdict. no_threads.c is what the program loads where
 it is to make no thread.

@@ -92,7 +92,9 @@ fn accepted_law(graph: &Graph, claim: &Claim, rules: RuleSet, certificate: &Cert
     ensures plain { rules ≡ WithoutTokens → All IsPlain certificate.now }
     ensures one { (tree : Tree) × (certificate.now ≡ tree ∷ []) }
 {
-    let _ = (claim, rules, certificate, splits);
+    let _ = (rules, splits);
+    let _ = claim;
+    let _ = certificate;
     graph.valid_law();
     tpl_laws::tokens_accept_more();
 }
