@@ -1,5 +1,5 @@
 -- The certificate of one claim, as an array of one value.
-use Rattle.std.proofs.Common.{◌≡◌, ℕ, List, [], ◌∷◌, length, map, ap, refl, arith}
+use Rattle.std.proofs.Common.{◌≡◌, ℕ, List, [], ◌∷◌, ◌++◌, length, map, ap, refl, arith}
 use Rattle.serde_json.specs.Data.{Data, array}
 use Rattle.serde_json.specs.View.{items_of, items_view, view}
 use Rattle.serde_json.specs.declared.value.Value.{Value}
@@ -19,3 +19,9 @@ pub one_value : (vs : List Value) (first : Data) → array (items_view vs) ≡ a
 one_value [] first e = absurd cc
 one_value (v ∷ []) first e = (v, refl, cc)
 one_value (v ∷ w ∷ vs) first e = absurd cc
+
+-- the last of one thing
+pub last_of : {X : Type 0} (front : List X) (last x : X) → front ++ last ∷ [] ≡ x ∷ [] → last ≡ x
+last_of [] last x e = cc
+last_of (y ∷ []) last x e = absurd cc
+last_of (y ∷ z ∷ front) last x e = absurd cc
