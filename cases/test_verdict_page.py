@@ -316,6 +316,69 @@ def test_how_a_run_came_to_it_is_told_in_the_words_of_the_program(program: Progr
         assert told == [f"{cause['event']} {cause['says']}" for cause in verdict.get("causes", [])]
 
 
+# claims of version 1, whose leaves have rows: for each its cases, and what follows in each
+WITH_ROWS = {
+    "version": 1,
+    "inputs": ["full"],
+    "tasks": [
+        {"name": "Pick", "kind": "root", "body": [{"if": "full", "then": [{"start": "All"}], "else": [{"start": "Some"}]}]},
+        {"name": "All", "kind": "child", "body": []},
+        {"name": "Some", "kind": "child", "body": []},
+        {"name": "Load", "kind": "root", "body": [{"work": "load", "may_fail": True}]},
+        {"name": "Save", "kind": "then", "after": "Load", "body": [], "options": ["NotOnFaulted"]},
+        {"name": "Lost", "kind": "root", "body": [{"throw": "lost"}]},
+        {"name": "Both", "kind": "all", "of": ["Lost"]},
+        {"name": "Told", "kind": "then", "after": "Both", "body": ["observe"]},
+    ],
+}
+ROWS_SAY = [
+    (
+        {"excludes": ["All", "Some"]},
+        [("full is true", ["All may end ran", "Some never begins"]), ("full is false", ["All never begins", "Some may end ran"])],
+    ),
+    ({"after": ["Load", "Save"]}, [("", ["Load is settled when Save begins"])]),
+    ({"final": "Load", "in": ["RanToCompletion", "Faulted"]}, [("", ["Load may end ran or faulted"])]),
+    ({"observed": "Lost"}, [("", ["Told reads the exception of Lost"])]),
+]
+# claims of version 3, whose leaves have none
+WITHOUT_ROWS = {
+    "version": 3,
+    "tasks": [
+        {"name": "Load", "kind": "root", "body": [{"work": "load", "may_fail": True}]},
+        {"name": "Yes", "kind": "then", "after": "Load", "body": [], "options": ["OnlyOnRanToCompletion"]},
+        {"name": "No", "kind": "then", "after": "Load", "body": [], "options": ["OnlyOnFaulted"]},
+    ],
+}
+SPLITS_SAY = [
+    (
+        {"excludes": ["Yes", "No"]},
+        [(f"Load ends {end} or not at all", []) for end in ("ran", "canceled", "faulted")],
+    ),
+    ({"after": ["Load", "No"]}, []),
+    ({"never": "Yes"}, []),
+]
+
+
+@pytest.mark.parametrize("bare, says", [(WITH_ROWS, ROWS_SAY), (WITHOUT_ROWS, SPLITS_SAY)], ids=("rows", "no-rows"))
+def test_the_cases_of_a_certificate_are_shown(chromium: Browser, written, bare: dict, says: list):
+    """Where a claim holds: what each leaf of its tree assumes, and what its rows say of the claim's tasks."""
+    document = {**bare, "claims": [claim for claim, _ in says]}
+    assert chromium.open(written(document, f"cases-{bare['version']}")) == []
+    shown = []
+    for number in range(1, len(says) + 1):
+        chromium.ask("document.getElementById(arguments[0]).click()", f"claim-{number}")
+        cases = chromium.ask(
+            """
+            const own = (item) => [...item.childNodes].filter((node) => node.tagName !== "UL").map((node) => node.textContent);
+            const listed = (item) => [...item.querySelectorAll("li")].map((said) => said.textContent);
+            return [...document.querySelectorAll(".cases > li")].map((item) => [own(item).join(""), listed(item)]);
+        """
+        )
+        shown.append([(where, rows) for where, rows in cases])
+    assert shown == [cases for _, cases in says]
+    assert chromium.complaints() == []
+
+
 # how it is used
 
 

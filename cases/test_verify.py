@@ -1,9 +1,10 @@
 """`verify` says of each claim what is so, in each of its four formats.
 
 verdicts/claims.toml has claims of which it was worked out by hand whether they hold. Of claims about graphs that are drawn
-by chance the verdicts agree with `analyse`, `check`, `refute` and `audit`, claim by claim. The same words give the same
-bytes for every number of jobs. The JSON is valid by schema/verify.schema.json and the JUnit by verdicts/junit.xsd, both
-say what the text says, and each run that is given is one in which the claim fails.
+by chance the verdicts agree with `analyse`, `check`, `refute` and `audit`, claim by claim. `check` accepts the trees of the
+claims that hold as a certificate of these claims. The same words give the same bytes for every number of jobs. The JSON is
+valid by schema/verify.schema.json and the JUnit by verdicts/junit.xsd, both say what the text says, and each run that is
+given is one in which the claim fails.
 
 As text, the lines for a claim can be read before the next one has its verdict. no_threads.c is what the program loads where
 it is to make no thread.
@@ -13,6 +14,7 @@ first nothing is tested of the schema, and that has failed; without the second t
 """
 import importlib
 import json
+import pathlib
 import random
 import re
 import subprocess
@@ -24,8 +26,9 @@ import pytest
 
 import debian
 from graphs import Drawn
-from harness import HERE, TOP, Answer, Program, compact, slug
+from harness import HERE, TOP, Answer, Program, compact, examples, slug
 from hostile import cost_of
+from pipelines import Pipeline
 from test_schema import jsonschema
 
 YES, NO = 0, 1
@@ -33,7 +36,7 @@ FORMATS = ("text", "json", "junit", "html")
 JOBS = ("1", "2", "8")
 DEPTH = "6"
 # how many graphs are drawn by chance, how many claims each has, and how many runs are tried for each
-DRAWN, CLAIMS, RUNS = 250, 4, "300"
+DRAWN, PIPELINES, CLAIMS, RUNS = 250, 100, 4, "300"
 LIMIT = 300
 # how many tasks a chain has, and how often the cost of one claim about it those of all may be
 CHAIN, OFTEN = 512, 40
@@ -70,6 +73,28 @@ SOON = [
     "claim 2 fails: A never begins\n",
     "  w1 begin A\n",
     "  claim 2 fails here\n",
+]
+# where a tree has its branches
+BRANCHES = ("yes", "no", "ran", "canceled", "faulted")
+# two steps that may fail, each with what follows its success and its failure: which step a split is on is clear from the claim
+SPLIT = {
+    "version": 3,
+    "tasks": [
+        *({"name": name, "kind": "root", "body": [{"work": name, "may_fail": True}]} for name in ("A", "B")),
+        *(
+            {"name": f"{name}_{end}", "kind": "then", "after": name, "body": [], "options": [f"OnlyOn{end}"]}
+            for name in ("A", "B")
+            for end in ("RanToCompletion", "Faulted")
+        ),
+    ],
+}
+# claims about them, and the tree of each
+PROVED = [
+    (
+        {"excludes": [f"{name}_RanToCompletion", f"{name}_Faulted"]},
+        {"split_end": name, "ran": "least", "canceled": "least", "faulted": "least"},
+    )
+    for name in ("A", "B")
 ]
 # the verdicts that are a failure for a reporter of tests
 FAILURES = ("fails", "empty", "unknown")
@@ -143,6 +168,25 @@ def check_run(program: Program, text: str, said: dict):
     audit = program("audit", given=json.dumps(document))
     assert run["events"] == run["journal"].count("\n")
     assert (audit.exit, audit.stdout.splitlines()[1:]) == (NO, [f"claim 1 fails at {run['events']}"])
+
+
+def height(tree: dict | str) -> int:
+    """How many splits a tree has above its deepest leaf."""
+    below = [height(tree[name]) for name in BRANCHES if name in tree] if isinstance(tree, dict) else []
+    return 1 + max(below) if below else 0
+
+
+def check_trees(program: Program, text: str, each: list[dict]):
+    """The claims that hold have trees, and no other has; with these as its certificate `check` accepts the document of these
+    claims alone. That is asked anew: the check searches nothing, and reads the trees as documents have them."""
+    held = [said for said in each if said["verdict"] in ("holds", "empty")]
+    assert held == [said for said in each if "tree" in said]
+    trees = [said["tree"] for said in held]
+    assert [height(tree) for tree in trees] == [said["splits"] for said in held]
+    document = json.loads(text)
+    claims = [document["claims"][said["claim"] - 1] for said in held]
+    answer = program("check", given=json.dumps({**bare(document), "claims": claims, "certificate": trees}), limit=LIMIT)
+    assert (answer.stdout, answer.exit) == ("accepted\n", YES)
 
 
 def check_agrees(program: Program, text: str, said: dict):
@@ -223,6 +267,7 @@ def test_worked_out(program, text: str, wanted: list[str]):
     for said in each:
         if said["verdict"] == "fails":
             check_run(program, text, said)
+    check_trees(program, text, each)
 
 
 def lines_below(text: str) -> list[list[str]]:
@@ -255,8 +300,37 @@ def test_drawn_graph(program, number: int):
         answer = verify(program, text=text)
         assert (answer.stdout, answer.exit) == (plain.stdout, plain.exit)
         return
-    for said in verdicts(program, "--runs", RUNS, text=text):
+    each = verdicts(program, "--runs", RUNS, text=text)
+    check_trees(program, text, each)
+    for said in each:
         check_agrees(program, text, said)
+
+
+@pytest.mark.drawn(PIPELINES)
+def test_trees_of_drawn_pipelines(program, number: int):
+    """Of each of several claims that teams make of a pipeline."""
+    pipeline = Pipeline(random.Random(number))
+    text = json.dumps(pipeline.document(*(pipeline.claim() for _ in range(CLAIMS)), version=3))
+    each = verdicts(program, "--runs", RUNS, text=text)
+    check_trees(program, text, each)
+
+
+@pytest.mark.parametrize("path", examples(), ids=lambda path: path.stem)
+def test_trees_of_examples(program, path: pathlib.Path):
+    text = path.read_text(encoding="utf-8")
+    each = verdicts(program, "--runs", RUNS, text=text)
+    check_trees(program, text, each)
+
+
+@pytest.mark.parametrize("number", range(len(PROVED)))
+def test_a_tree_of_another_claim_is_refused(program, number: int):
+    """So that a document with the trees of its claims mixed up would be seen."""
+    claims = [claim for claim, _ in PROVED]
+    trees = [said["tree"] for said in verdicts(program, text=json.dumps({**SPLIT, "claims": claims}))]
+    assert trees == [tree for _, tree in PROVED]
+    turned = [trees[number - 1]]
+    answer = program("check", given=json.dumps({**SPLIT, "claims": [claims[number]], "certificate": turned}))
+    assert (answer.stdout.startswith("refused: "), answer.exit) == (True, NO)
 
 
 @pytest.mark.parametrize("text, wanted", worked_out())
@@ -374,6 +448,12 @@ def test_junit_is_refused(program, junit, old: str, new: str):
     assert old in text
     with pytest.raises((junit.etree.DocumentInvalid, junit.etree.XMLSyntaxError)):
         junit.read(text.replace(old, new, 1))
+
+
+def test_trees_are_described_as_in_documents(described):
+    documents = json.loads((TOP / "schema/taskgraph.schema.json").read_text(encoding="utf-8"))
+    same = ("tree", "row", "final", "name")
+    assert [described.schema["$defs"][name] for name in same] == [documents["$defs"][name] for name in same]
 
 
 @pytest.mark.parametrize("text, wanted", worked_out())

@@ -9,7 +9,7 @@ FOLDER = os.path.dirname(os.path.realpath(__file__))
 # the scripts, in the order in which they come
 SCRIPTS = (
     *("words", "document", "play", "causes", "audit", "groups", "layers", "elements", "choice"),
-    *("graph", "view", "paint", "lanes", "claims", "details", "task", "print", "page"),
+    *("graph", "view", "paint", "lanes", "claims", "cases", "details", "task", "print", "page"),
 )
 ANSWER, DATA = "@ANSWER@", "@DATA@"
 # the source that is made of the parts

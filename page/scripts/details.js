@@ -33,11 +33,12 @@ function saidLines(number) {
 }
 
 // Why a claim holds, says nothing, or isn't known.
-function reasonElements({ claim: number, verdict, splits }) {
+function reasonElements({ claim: number, verdict, splits, tree }) {
   const isToldByLines = !audit && (verdict === "empty" || verdict === "unknown");
   return [
     isToldByLines && saidLines(number).map((line) => html("p", {}, withTasks(line.trim()))),
     splits !== undefined && html("p", { class: "tells" }, SPLITS_WORDS(splits)),
+    tree !== undefined && caseElements(tree, claimOf(number)),
   ];
 }
 

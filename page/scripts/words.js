@@ -101,6 +101,19 @@ const AUDIT_WORDS = {
 };
 const SPLITS_WORDS = (splits) =>
   splits ? `The certificate has at most ${counted(splits, "split")} on a path.` : "The certificate has one case.";
+// Where a case of a certificate speaks, and what its rows say of the claim's tasks.
+const CASES = {
+  end: "{task} ends {status} or not at all",
+  first: "no other than {other} is the first of {task}",
+  notFirst: "{other} isn't the first of {task}",
+  settled: "{other} is settled when {task} begins",
+  reads: "{other} reads the exception of {task}",
+  neverBegins: "{task} never begins",
+  neverEnds: "{task} never ends",
+  mayEnd: "{task} may end {ways}",
+};
+const CASES_WORDS = (isLeast) =>
+  `Each run is in one of these cases, and the claim holds in each${isLeast ? ": the check works out why" : ""}.`;
 
 // What a task is.
 const TASK_KINDS = {
@@ -155,6 +168,7 @@ const WORDS = {
   noClaim: "no claim",
   claim: (number, verdict) => ` claim ${number} ${verdict}`,
   size: () => `${counted(tasks.length, "task")} · ${counted(claims.length, "claim")}`,
+  certificate: "The certificate",
   wrong: "What goes wrong",
   causes: "How it came to this",
   folded: (count) => `${counted(count, "step")} before, in which tasks ran`,

@@ -1,2 +1,2 @@
 -- The definitions that sources cite, passed on from one place. Declares nothing.
-pub use Rattle.tpl_series.specs.Told.{HasTold, IsHalted, IsNext, IsStopped, TellsAll, TellsNext}
+pub use Rattle.tpl_series.specs.Told.{HasKept, HasTold, IsHalted, IsNext, IsStopped, TellsAll, TellsNext}

@@ -1,5 +1,5 @@
 -- Values that were told one after another.
-use Rattle.std.specs.Prelude.{◌≡◌, ℕ, List, [], ◌∷◌, ◌++◌, length, Option}
+use Rattle.std.specs.Prelude.{◌≡◌, ℕ, List, [], ◌∷◌, ◌++◌, length, map, Option}
 use Rattle.tpl_journal.specs.declared.counting.Counting.{Counting}
 use Rattle.tpl_journal.specs.Writing.{StopsIn, Writes}
 use Rattle.tpl_series.specs.declared.stop.Stop.{Stop}
@@ -10,8 +10,10 @@ abbrev pub IsNext : {V : Type 0} → (List V → List ℕ → Type 0) → ℕ �
 IsNext {V} tells place value text =
     (values : List V) (before : List ℕ) → length values ≡ place → tells values before → tells (values ++ value ∷ []) (before ++ text)
 
--- the value at this place was told
-pub record TellsNext {V W : Type 0} (tells : List V → List ℕ → Type 0) (place : ℕ) (contents : W → Option (List ℕ)) (old new : Counting W) (value : V) : Type 0 where
+-- a value was told at this place, and this is what is kept of it
+pub record TellsNext {V K W : Type 0} (tells : List V → List ℕ → Type 0) (keep : V → K) (place : ℕ) (contents : W → Option (List ℕ)) (old new : Counting W) (kept : K) : Type 0 where
+  pub value : V
+  pub is : kept ≡ keep value
   pub text : List ℕ
   pub next : IsNext tells place value text
   pub writes : Writes contents old new text
@@ -34,9 +36,15 @@ pub record HasTold {V W : Type 0} (tells : List V → List ℕ → Type 0) (cont
   pub told : tells values text
   pub writes : Writes contents old new text
 
+-- a text that tells some values was written, and this is what is kept of them
+pub record HasKept {V K W : Type 0} (tells : List V → List ℕ → Type 0) (keep : V → K) (contents : W → Option (List ℕ)) (old new : Counting W) (kept : List K) : Type 0 where
+  pub values : List V
+  pub are : kept ≡ map keep values
+  pub told : HasTold tells contents old new values
+
 -- so many values were told
-abbrev pub TellsAll : {V W : Type 0} → (List V → List ℕ → Type 0) → ℕ → (W → Option (List ℕ)) → Counting W → Counting W → List V → Type 0
-TellsAll tells count contents old new values = (length values ≡ count) × HasTold tells contents old new values
+abbrev pub TellsAll : {V K W : Type 0} → (List V → List ℕ → Type 0) → (V → K) → ℕ → (W → Option (List ℕ)) → Counting W → Counting W → List K → Type 0
+TellsAll tells keep count contents old new kept = (length kept ≡ count) × HasKept tells keep contents old new kept
 
 -- a write failed, and of a text that tells some values a front was written
 pub record StopsTelling {V W : Type 0} (tells : List V → List ℕ → Type 0) (contents : W → Option (List ℕ)) (old new : Counting W) : Type 0 where

@@ -89,19 +89,19 @@ fn tell_found<R: Wait, K: Known<V>, V: Drop, T: Tell<V>, W: Write>(
     shared: &Shared<K, V>,
     telling: &T,
     to: &mut Counting<W>,
-) -> Result<Vec<V>, Stop>
+) -> Result<Vec<T::Kept>, Stop>
     requires fits { (i : ℕ) (value : V) → K.fits i value → T.fits telling.now i value }
     requires begins { T.tells telling.now [] [] }
     ensures { MatchResult result
-        (λ told. TellsAll (T.tells telling.now) (length shared.now.said.items) W.contents
-        to.old to.new told.items)
+        (λ kept. TellsAll (T.tells telling.now) T.keep (length shared.now.said.items) W.contents
+        to.old to.new kept.items)
         (IsStopped (T.tells telling.now) W.contents to.old to.new) }
 {
     let mut ends = shared.ends.lock(rt);
     let said = shared.said.as_slice();
-    let told = tell_taken(rt, alloc, said, telling, to, ends.as_mut_slice());
+    let kept = tell_taken(rt, alloc, said, telling, to, ends.as_mut_slice());
     shared.over.store(true, Ordering::SeqCst);
-    told
+    kept
 }
 
 /// Seeks a value for each place, and tells in order what is found.
@@ -122,7 +122,7 @@ fn seek_and_tell<
     shared: &'a Shared<K, V>,
     seats: &'a mut [Seat<K, V>],
     to: &'a mut Counting<W>,
-) -> Result<Vec<V>, Stop>
+) -> Result<Vec<T::Kept>, Stop>
     requires jobs { 0 < jobs }
     requires callable { (i : ℕ) → i < length shared.now.said.items → F.pre answer.now i }
     requires known { (i : ℕ) (value : V) → i < length shared.now.said.items
@@ -130,16 +130,16 @@ fn seek_and_tell<
     requires fits { (i : ℕ) (value : V) → K.fits i value → T.fits telling.now i value }
     requires begins { T.tells telling.now [] [] }
     ensures { MatchResult result
-        (λ told. TellsAll (T.tells telling.now) (length shared.now.said.items) W.contents
-        to.old to.new told.items)
+        (λ kept. TellsAll (T.tells telling.now) T.keep (length shared.now.said.items) W.contents
+        to.old to.new kept.items)
         (IsStopped (T.tells telling.now) W.contents to.old to.new) }
 {
-    let mut tell = || -> Result<Vec<V>, Stop>
+    let mut tell = || -> Result<Vec<T::Kept>, Stop>
         requires { ((i : ℕ) (value : V) → K.fits i value → T.fits telling.now i value)
             × T.tells telling.now [] [] }
         ensures { MatchResult result
-            (λ told. TellsAll (T.tells telling.entry.now) (length shared.entry.now.said.items)
-            W.contents to.entry.now to.exit.now told.items)
+            (λ kept. TellsAll (T.tells telling.entry.now) T.keep
+            (length shared.entry.now.said.items) W.contents to.entry.now to.exit.now kept.items)
             (IsStopped (T.tells telling.entry.now) W.contents to.entry.now to.exit.now) }
     { tell_found(rt, alloc, shared, telling, to) };
     let mut seek = ||
@@ -148,8 +148,8 @@ fn seek_and_tell<
             × ((i : ℕ) (value : V) → i < length shared.now.said.items
             → F.post answer.now i (Some value) → K.fits i value) }
     { seek_all(rt, jobs, answer, shared, seats) };
-    let (told, _) = join_mut(rt, &mut tell, &mut seek);
-    told
+    let (kept, _) = join_mut(rt, &mut tell, &mut seek);
+    kept
 }
 
 /// Tells in order what the function answers at each of the first places, as [`tell_in_order`] does, by several threads.
@@ -169,7 +169,7 @@ fn tell_beside<
     answer: &F,
     telling: &T,
     to: &mut Counting<W>,
-) -> Result<Vec<V>, Stop>
+) -> Result<Vec<T::Kept>, Stop>
     requires jobs { 0 < jobs }
     requires callable { (i : ℕ) → i < count → F.pre answer.now i }
     requires known { (i : ℕ) (value : V) → i < count → F.post answer.now i (Some value)
@@ -177,7 +177,7 @@ fn tell_beside<
     requires fits { (i : ℕ) (value : V) → K.fits i value → T.fits telling.now i value }
     requires begins { T.tells telling.now [] [] }
     ensures { MatchResult result
-        (λ told. TellsAll (T.tells telling.now) count W.contents to.old to.new told.items)
+        (λ kept. TellsAll (T.tells telling.now) T.keep count W.contents to.old to.new kept.items)
         (IsStopped (T.tells telling.now) W.contents to.old to.new) }
 {
     let Ok(
@@ -203,8 +203,8 @@ fn tell_beside<
 }
 
 /// Tells what the function answers at each of the first places, in order, each value as soon as it is found and those before
-/// it are told, by at most this many threads that seek and one that writes. The values that were told; or why telling has
-/// ended before the last one.
+/// it are told, by at most this many threads that seek and one that writes. What is kept of the values, each of which is let go
+/// once it is told; or why telling has ended before the last one.
 pub fn tell_in_order<
     R: Threads + Wait + Sync,
     V: Drop + Send,
@@ -219,14 +219,14 @@ pub fn tell_in_order<
     answer: &F,
     telling: &T,
     to: &mut Counting<W>,
-) -> Result<Vec<V>, Stop>
+) -> Result<Vec<T::Kept>, Stop>
     requires jobs { 0 < jobs }
     requires callable { (i : ℕ) → i < count → F.pre answer.now i }
     requires fits { (i : ℕ) (value : V) → i < count → F.post answer.now i (Some value)
         → T.fits telling.now i value }
     requires begins { T.tells telling.now [] [] }
     ensures { MatchResult result
-        (λ told. TellsAll (T.tells telling.now) count W.contents to.old to.new told.items)
+        (λ kept. TellsAll (T.tells telling.now) T.keep count W.contents to.old to.new kept.items)
         (IsStopped (T.tells telling.now) W.contents to.old to.new) }
 {
     if jobs == 1 || count < 2 {

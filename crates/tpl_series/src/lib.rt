@@ -8,6 +8,7 @@
 //! - **Who writes has a thread beside those that seek.** Where none can be made for it, it writes behind them. So no number
 //!   of threads that are refused keeps a value from being told.
 //! - **Once telling has ended, no more is sought** than what was begun.
+//! - **A value is let go once it is told**: what is kept of it may be a word, however large it is.
 #![tactic(auto)]
 
 mod beside;

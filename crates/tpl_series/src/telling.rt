@@ -1,7 +1,7 @@
 //! Values, told one after another.
 
 ghost use Rattle.std.specs.Prelude.{◌≡◌, ◌+◌, ◌<◌, ℕ, [], length, IfOk, IfSome, MatchResult, Some};
-ghost use Rattle.tpl_series.specs.Prelude.{HasTold, IsHalted, IsStopped, TellsAll, TellsNext};
+ghost use Rattle.tpl_series.specs.Prelude.{HasKept, IsHalted, IsStopped, TellsAll, TellsNext};
 
 use crate::known::Known;
 use crate::ring::{End, take};
@@ -12,17 +12,17 @@ use std::io::Write;
 use std::sync::{OnceLock, Wait};
 use tpl_journal::{Counting, write_whole};
 
-/// Tells the value at this place; none is memory that was refused.
+/// Tells the value at this place, and gives what is kept of it; none is memory that was refused.
 fn tell_next<V: Drop, T: Tell<V>, W: Write>(
     alloc: Global,
     telling: &T,
     place: usize,
     value: Option<V>,
     to: &mut Counting<W>,
-) -> Result<V, Stop>
+) -> Result<T::Kept, Stop>
     requires { IfSome value (T.fits telling.now place) }
     ensures { MatchResult result
-        (TellsNext (T.tells telling.now) place W.contents to.old to.new)
+        (TellsNext (T.tells telling.now) T.keep place W.contents to.old to.new)
         (IsHalted (T.tells telling.now) place W.contents to.old to.new) }
 {
     let Some(value) = value else {
@@ -32,32 +32,32 @@ fn tell_next<V: Drop, T: Tell<V>, W: Write>(
         return Err(Stop::Memory);
     };
     match write_whole(text.as_bytes(), to) {
-        Ok(()) => Ok(value),
+        Ok(()) => Ok(telling.kept(&value)),
         Err(_) => Err(Stop::Device),
     }
 }
 
-/// Tells the value at this place, and puts it behind those that were told.
+/// Tells the value at this place, and puts what is kept of it behind what was kept before.
 #[tactic(auto, using(crate::proofs::ToldLemmas::told_more, crate::proofs::ToldLemmas::halted, crate::proofs::ToldLemmas::lost))]
 fn tell_more<V: Drop, T: Tell<V>, W: Write>(
     alloc: Global,
     telling: &T,
     place: usize,
-    told: &mut Vec<V>,
+    kept: &mut Vec<T::Kept>,
     value: Option<V>,
     to: &mut Counting<W>,
 ) -> Result<(), Stop>
-    requires place { place ≡ length told.old.items }
+    requires place { place ≡ length kept.old.items }
     requires fits { IfSome value (T.fits telling.now place) }
-    ensures length { IfOk result (λ _. length told.new.items ≡ place + 1) }
+    ensures length { IfOk result (λ _. length kept.new.items ≡ place + 1) }
     ensures told { (start : Counting W)
-        → HasTold (T.tells telling.now) W.contents start to.old told.old.items
+        → HasKept (T.tells telling.now) T.keep W.contents start to.old kept.old.items
         → MatchResult result
-        (λ _. HasTold (T.tells telling.now) W.contents start to.new told.new.items)
+        (λ _. HasKept (T.tells telling.now) T.keep W.contents start to.new kept.new.items)
         (IsStopped (T.tells telling.now) W.contents start to.new) }
 {
     match tell_next(alloc, telling, place, value, to) {
-        Ok(value) => match told.push(value) {
+        Ok(one) => match kept.push(one) {
             Ok(()) => Ok(()),
             Err(_) => Err(Stop::Memory),
         },
@@ -73,7 +73,7 @@ pub(crate) fn answer_at<V, F: Fn(usize) -> Option<V>>(answer: &F, place: usize) 
     answer(place)
 }
 
-/// Tells what the function answers at each of the first places, one after another.
+/// Tells what the function answers at each of the first places, one after another, and gives what is kept of it.
 #[tactic(auto, using(crate::proofs::ToldLemmas::told_nothing))]
 pub(crate) fn tell_alone<V: Drop, F: Fn(usize) -> Option<V>, T: Tell<V>, W: Write>(
     alloc: Global,
@@ -81,27 +81,27 @@ pub(crate) fn tell_alone<V: Drop, F: Fn(usize) -> Option<V>, T: Tell<V>, W: Writ
     answer: &F,
     telling: &T,
     to: &mut Counting<W>,
-) -> Result<Vec<V>, Stop>
+) -> Result<Vec<T::Kept>, Stop>
     requires callable { (i : ℕ) → i < count → F.pre answer.now i }
     requires fits { (i : ℕ) (value : V) → i < count → F.post answer.now i (Some value)
         → T.fits telling.now i value }
     requires begins { T.tells telling.now [] [] }
     ensures { MatchResult result
-        (λ told. TellsAll (T.tells telling.now) count W.contents to.old to.new told.items)
+        (λ kept. TellsAll (T.tells telling.now) T.keep count W.contents to.old to.new kept.items)
         (IsStopped (T.tells telling.now) W.contents to.old to.new) }
 {
-    let mut told = Vec::new(alloc);
+    let mut kept = Vec::new(alloc);
     for place in 0..count {
         let value = answer_at(answer, place);
-        match tell_more(alloc, telling, place, &mut told, value, to) {
+        match tell_more(alloc, telling, place, &mut kept, value, to) {
             Ok(()) => {}
             Err(stop) => return Err(stop),
         }
     }
-    Ok(told)
+    Ok(kept)
 }
 
-/// Tells what other threads put into the rings, one after another.
+/// Tells what other threads put into the rings, one after another, and gives what is kept of it.
 #[tactic(auto, using(crate::proofs::ToldLemmas::told_nothing))]
 pub(crate) fn tell_taken<R: Wait, K: Known<V>, V: Drop, T: Tell<V>, W: Write>(
     rt: &R,
@@ -110,21 +110,21 @@ pub(crate) fn tell_taken<R: Wait, K: Known<V>, V: Drop, T: Tell<V>, W: Write>(
     telling: &T,
     to: &mut Counting<W>,
     ends: &mut [End<K, V>],
-) -> Result<Vec<V>, Stop>
+) -> Result<Vec<T::Kept>, Stop>
     requires fits { (i : ℕ) (value : V) → K.fits i value → T.fits telling.now i value }
     requires begins { T.tells telling.now [] [] }
     ensures { MatchResult result
-        (λ told. TellsAll (T.tells telling.now) (length said.now) W.contents to.old to.new
-        told.items)
+        (λ kept. TellsAll (T.tells telling.now) T.keep (length said.now) W.contents to.old to.new
+        kept.items)
         (IsStopped (T.tells telling.now) W.contents to.old to.new) }
 {
-    let mut told = Vec::new(alloc);
+    let mut kept = Vec::new(alloc);
     for place in 0..said.len() {
         let value = take(rt, ends, said, place);
-        match tell_more(alloc, telling, place, &mut told, value, to) {
+        match tell_more(alloc, telling, place, &mut kept, value, to) {
             Ok(()) => {}
             Err(stop) => return Err(stop),
         }
     }
-    Ok(told)
+    Ok(kept)
 }

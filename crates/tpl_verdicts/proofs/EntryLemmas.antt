@@ -6,9 +6,10 @@ use Rattle.std.proofs.lemmas.List.{flat_map_more, take_all, take_more, length-ta
 use Rattle.std.proofs.lemmas.Option.{get_or_from_slice_get, slice_get_within}
 use Rattle.tpl_model.specs.Graph.{TaskGraph}
 use Rattle.tpl_model.specs.Claims.{Claim}
+use Rattle.tpl_model.specs.declared.rule_set.RuleSet.{RuleSet}
 use Rattle.tpl_graph.specs.Fits.{Fits}
 use Rattle.tpl_verify.specs.declared.verdict.Verdict.{Verdict}
-use Rattle.tpl_verify.specs.Verdicts.{AreVerdicts, IsSomeVerdict, IsVerdict}
+use Rattle.tpl_verify.specs.Verdicts.{IsVerdict}
 use Rattle.tpl_verdicts.specs.Lines.{AreNumbered}
 use Rattle.tpl_verdicts.specs.Told.{Told, told}
 
@@ -78,15 +79,15 @@ pub all_at : {X : Type 0} (P : X → Type 0) (xs : List X) (i : ℕ) (x : X) →
 all_at {X} P xs i x lt is all = subst (λ (y : X). P y) (sym is) (all i x lt)
 
 -- a claim and the verdict on it
-module _ (graph : TaskGraph) (claims : List Claim) (verdicts : List Verdict) (are : AreVerdicts graph claims verdicts) (at : ℕ) (lt : at < length verdicts) where
+module _ (rules : RuleSet) (graph : TaskGraph) (claims : List Claim) (verdicts : List Verdict) (are : AllZip (IsVerdict rules graph) claims verdicts) (at : ℕ) (lt : at < length verdicts) where
   pub has_claim : at < length claims
-  has_claim = let same = zip_length (IsVerdict are.0 graph) claims verdicts are.1 in omega (arith, same, lt)
+  has_claim = let same = zip_length (IsVerdict rules graph) claims verdicts are in omega (arith, same, lt)
 
   pub claim_fits : (claim : Claim) → claim ≡ slice_index_or claims at claim → All (Fits graph) claims → Fits graph claim
   claim_fits claim is fits = all_at (Fits graph) claims at claim has_claim is fits
 
-  pub verdict_at : (claim : Claim) (verdict : Verdict) → claim ≡ slice_index_or claims at claim → verdict ≡ slice_index_or verdicts at verdict → IsSomeVerdict graph claim verdict
-  verdict_at claim verdict is_claim is_verdict = (are.0, zip_at (IsVerdict are.0 graph) claims verdicts at claim verdict lt is_claim is_verdict are.1)
+  pub verdict_at : (claim : Claim) (verdict : Verdict) → claim ≡ slice_index_or claims at claim → verdict ≡ slice_index_or verdicts at verdict → IsVerdict rules graph claim verdict
+  verdict_at claim verdict is_claim is_verdict = zip_at (IsVerdict rules graph) claims verdicts at claim verdict lt is_claim is_verdict are
 
 -- one text more behind those of the first things
 pub text_more : {X : Type 0} (f : X → List ℕ) (xs : List X) (i : ℕ) (x : X) (start old new : List ℕ) → i < length xs → x ≡ slice_index_or xs i x → old ≡ start ++ flat_map f (take i xs) → new ≡ old ++ f x → new ≡ start ++ flat_map f (take (i + 1) xs)

@@ -1,5 +1,6 @@
 -- From what was told claim by claim to the answer that was written.
-use Rattle.std.proofs.Common.{Vec, Global, ◌≡◌, ℕ, ◌++◌, Option, List, length, codes, Result, Ok, Err, ap, inl, inr, refl, sym, subst}
+use Rattle.std.proofs.Common.{Vec, Global, ◌≡◌, ℕ, ◌++◌, Option, List, ◌∙◌, length, map, codes, Result, Ok, Err, ap, inl, inr, refl, sym, subst}
+use Rattle.std.proofs.lemmas.List.{length-map}
 use Rattle.std.specs.Prelude.{MatchResult, IfOk, string_bytes, ◌≤◌}
 use Rattle.std.specs.declared.alloc.AllocError.{AllocError}
 use Rattle.tpl_journal.specs.declared.counting.Counting.{Counting}
@@ -21,11 +22,13 @@ use Rattle.tpl_series.proofs.ToldLemmas.{stops_behind}
 use Rattle.tpl_verify.specs.declared.verdict.Verdict.{Verdict}
 use Rattle.tpl_verdicts.specs.declared.style.Style.{Style}
 use Rattle.tpl_verdicts.specs.declared.style.Style.TheVariants.{Text}
-use Rattle.tpl_verdicts.specs.Answer.{IsVerified, Verified, Verifies}
+use Rattle.tpl_verdicts.specs.Answer.{IsExit, IsVerified, Verified, Verifies}
 use Rattle.tpl_verdicts.specs.Asked.{AreFirst}
 use Rattle.tpl_verdicts.specs.Lines.{sums_line}
+use Rattle.tpl_verdicts.specs.Words.{word_of}
+use Rattle.tpl_verdicts.specs.declared.word.Word.{Word}
 use Rattle.tpl_verdicts.specs.Streaming.{AnswersBytes, BreaksOff, IsStreamed, PutsStop, PutsSums, Streams}
-use Rattle.tpl_verdicts.proofs.Answering.{done_verifies}
+use Rattle.tpl_verdicts.proofs.Answering.{done_verifies, success_sound}
 use Rattle.tpl_verdicts.proofs.AskedLemmas.{all_true}
 
 -- a text is put behind one that was written
@@ -39,27 +42,33 @@ module _ {W : Type 0} (contents : W → Option (List ℕ)) (old told new : Count
   First = AreFirst (rules_of doc) depth runs doc.graph doc.claims doc.names
 
   -- each claim was told, and how many verdicts of each word there are was put
-  pub streamed_whole : (verdicts : List Verdict) → TellsAll First (length doc.claims) contents old told verdicts → PutsSums contents told new doc verdicts result → IsStreamed contents old new depth runs bytes doc result
-  streamed_whole verdicts all (inl put) =
-      let lines = all.1.text in
+  pub streamed_whole : (words : List Word) → TellsAll First word_of (length doc.claims) contents old told words → PutsSums contents told new words result → IsStreamed contents old new depth runs bytes doc result
+  streamed_whole words all (inl put) =
+      let verdicts = all.1.values in
+      let first = all.1.told.told in
+      let lines = all.1.told.text in
+      let as_many = sym (ap length all.1.are ∙ length-map verdicts word_of) ∙ all.0 in
+      let are = all_true (rules_of doc) depth runs doc.graph doc.claims doc.names verdicts lines as_many first in
+      let ends = subst (λ (ws : List Word). IsExit ws put.0) all.1.are put.1 in
       inl (
         put.0,
-        lines ++ sums_line verdicts,
+        lines ++ sums_line (map word_of verdicts),
         record {
           verdicts = verdicts;
-          true_of = all_true (rules_of doc) depth runs doc.graph doc.claims doc.names verdicts lines all.0 all.1.told;
-          within = all.1.told.within;
-          ends = put.1;
-          sound = put.2;
-          says = (all.1.told.entries, all.1.told.are_entries, ap (λ (z : List ℕ). z ++ sums_line verdicts) all.1.told.says);
+          true_of = are;
+          within = first.within;
+          ends = ends;
+          sound = success_sound (rules_of doc) doc.graph.graph doc.claims verdicts put.0 are ends;
+          says = (first.entries, first.are_entries, ap (λ (z : List ℕ). z ++ sums_line (map word_of verdicts)) first.says);
         },
-        puts_behind contents old told new lines (sums_line verdicts) put.0 result all.1.writes put.3,
+        subst (λ (ws : List Word). Puts contents old new put.0 (lines ++ sums_line ws) result) all.1.are
+            (puts_behind contents old told new lines (sums_line words) put.0 result all.1.told.writes put.2),
       )
-  streamed_whole verdicts all (inr put) = inr (record {
-    verdicts = verdicts;
-    lines = all.1.text;
-    first = all.1.told;
-    puts = puts_behind contents old told new all.1.text (codes "out of memory\n") Memory result all.1.writes put;
+  streamed_whole words all (inr put) = inr (record {
+    verdicts = all.1.values;
+    lines = all.1.told.text;
+    first = all.1.told.told;
+    puts = puts_behind contents old told new all.1.told.text (codes "out of memory\n") Memory result all.1.told.writes put;
   })
 
   -- telling ended before the last claim
@@ -82,14 +91,14 @@ module _ {W : Type 0} (contents : W → Option (List ℕ)) (old told new : Count
   })
 
   -- telling ended, and what stands behind was put
-  streamed_by : (r : Result (Vec Verdict Global) Stop) → MatchResult r (λ verdicts. TellsAll First (length doc.claims) contents old told verdicts.items) (IsStopped First contents old told) → MatchResult r (λ verdicts. PutsSums contents told new doc verdicts.items result) (λ why. PutsStop contents told new why result) → IsStreamed contents old new depth runs bytes doc result
-  streamed_by (Ok verdicts) all put = streamed_whole verdicts.items all put
+  streamed_by : (r : Result (Vec Word Global) Stop) → MatchResult r (λ words. TellsAll First word_of (length doc.claims) contents old told words.items) (IsStopped First contents old told) → MatchResult r (λ words. PutsSums contents told new words.items result) (λ why. PutsStop contents told new why result) → IsStreamed contents old new depth runs bytes doc result
+  streamed_by (Ok words) all put = streamed_whole words.items all put
   streamed_by (Err why) stopped put = streamed_part why stopped put
 
   -- the same, by rules, claims and names that are the document's
-  pub streamed : (rules : RuleSet) (claims : List Claim) (names : List (Option (List ℕ))) → rules ≡ rules_of doc → claims ≡ doc.claims → names ≡ doc.names → (r : Result (Vec Verdict Global) Stop) → MatchResult r (λ verdicts. TellsAll (AreFirst rules depth runs doc.graph claims names) (length claims) contents old told verdicts.items) (IsStopped (AreFirst rules depth runs doc.graph claims names) contents old told) → MatchResult r (λ verdicts. PutsSums contents told new doc verdicts.items result) (λ why. PutsStop contents told new why result) → IsStreamed contents old new depth runs bytes doc result
+  pub streamed : (rules : RuleSet) (claims : List Claim) (names : List (Option (List ℕ))) → rules ≡ rules_of doc → claims ≡ doc.claims → names ≡ doc.names → (r : Result (Vec Word Global) Stop) → MatchResult r (λ words. TellsAll (AreFirst rules depth runs doc.graph claims names) word_of (length claims) contents old told words.items) (IsStopped (AreFirst rules depth runs doc.graph claims names) contents old told) → MatchResult r (λ words. PutsSums contents told new words.items result) (λ why. PutsStop contents told new why result) → IsStreamed contents old new depth runs bytes doc result
   streamed rules claims names of_rules of_claims of_names r telling put =
-      let Told : RuleSet → List Claim → List (Option (List ℕ)) → Type 0 = λ x y z. MatchResult r (λ verdicts. TellsAll (AreFirst x depth runs doc.graph y z) (length y) contents old told verdicts.items) (IsStopped (AreFirst x depth runs doc.graph y z) contents old told) in
+      let Told : RuleSet → List Claim → List (Option (List ℕ)) → Type 0 = λ x y z. MatchResult r (λ words. TellsAll (AreFirst x depth runs doc.graph y z) word_of (length y) contents old told words.items) (IsStopped (AreFirst x depth runs doc.graph y z) contents old told) in
       streamed_by r (subst (λ z. Told (rules_of doc) doc.claims z) of_names (subst (λ y. Told (rules_of doc) y names) of_claims (subst (λ x. Told x claims names) of_rules telling))) put
 
 -- the answer to a document is one of those that say something of its bytes

@@ -1,9 +1,13 @@
 -- The verdicts as a JSON value.
-use Rattle.std.specs.Prelude.{◌≡◌, ℕ, Option, Some, None, List, ◌++◌, codes, length, map, string_bytes}
+use Rattle.std.specs.Prelude.{◌≡◌, ℕ, Option, Some, None, List, [], ◌∷◌, ◌++◌, codes, length, map, string_bytes}
 use Rattle.serde_json.specs.Data.{Data, Members, array, boolean, member, no_members, number, object, put, string, unsigned}
 use Rattle.serde_json.specs.Read.{read}
 use Rattle.serde_json.specs.View.{items_of}
+use Rattle.tpl_model.specs.declared.rule_set.RuleSet.{RuleSet}
+use Rattle.tpl_model.specs.Certificate.{Tree}
 use Rattle.tpl_model.specs.Claims.{Claim}
+use Rattle.tpl_cert.specs.Written.{tree_data}
+use Rattle.tpl_reader.specs.Laws.{IsReadBack}
 use Rattle.tpl_draft.specs.Named.{Names}
 use Rattle.tpl_journal.specs.Lines.{lines, task_name}
 use Rattle.tpl_causes.specs.Causes.{AreCauses}
@@ -18,9 +22,10 @@ use Rattle.tpl_verify.specs.declared.verdict.Tried.{Tried}
 use Rattle.tpl_verify.specs.declared.verdict.Verdict.{Verdict}
 use Rattle.tpl_verify.specs.declared.verdict.Verdict.TheVariants as verdict
 use Rattle.tpl_reasons.specs.Words.{claim_words}
+use Rattle.tpl_verdicts.specs.declared.word.Word.{Word}
 use Rattle.tpl_verdicts.specs.declared.word.Word.TheVariants.{Holds, Fails, Empty, Unknown}
 use Rattle.tpl_verdicts.specs.Told.{Told}
-use Rattle.tpl_verdicts.specs.Words.{count_of, word_text}
+use Rattle.tpl_verdicts.specs.Words.{count_of, word_of, word_text}
 use Rattle.tpl_verdicts.specs.Lines.{AreNumbered}
 
 -- a number as a JSON value
@@ -57,15 +62,22 @@ IsRunData names run d =
     (inputs : Members) × AreFirst names.inputs run.inputs (length names.inputs) inputs
     × (d ≡ object (member (codes "events") (number_data (length run.events.items)) (member (codes "inputs") (object inputs) (member (codes "journal") (string (lines names run.events.items)) no_members))))
 
--- the value for a claim that holds
-abbrev pub held_data : (n splits : ℕ) → (words : List ℕ) → Data
-held_data n splits words =
-    object (member (codes "claim") (number_data n) (member (codes "splits") (number_data splits) (member (codes "text") (string words) (member (codes "verdict") (string (word_text Holds)) no_members))))
+-- the value is the one that is written for the certificate's only tree in a document, where it is read as that tree
+pub record IsTreeData (rules : RuleSet) (names : Names) (certificate : List Tree) (d : Data) : Type 0 where
+  pub tree : Tree
+  pub only : certificate ≡ tree ∷ []
+  pub written : d ≡ tree_data rules names tree
+  pub back : IsReadBack rules names tree
+
+-- the value for a claim that holds, with the tree of its certificate
+abbrev pub held_data : (n splits : ℕ) → (words : List ℕ) → (tree : Data) → Data
+held_data n splits words tree =
+    object (member (codes "claim") (number_data n) (member (codes "splits") (number_data splits) (member (codes "text") (string words) (member (codes "tree") tree (member (codes "verdict") (string (word_text Holds)) no_members)))))
 
 -- the value for a claim that holds and says nothing
-abbrev pub empty_data : (n : ℕ) → (why : Data) → (splits : ℕ) → (words : List ℕ) → Data
-empty_data n why splits words =
-    object (member (codes "claim") (number_data n) (member (codes "empty") why (member (codes "splits") (number_data splits) (member (codes "text") (string words) (member (codes "verdict") (string (word_text Empty)) no_members)))))
+abbrev pub empty_data : (n : ℕ) → (why : Data) → (splits : ℕ) → (words : List ℕ) → (tree : Data) → Data
+empty_data n why splits words tree =
+    object (member (codes "claim") (number_data n) (member (codes "empty") why (member (codes "splits") (number_data splits) (member (codes "text") (string words) (member (codes "tree") tree (member (codes "verdict") (string (word_text Empty)) no_members))))))
 
 -- an event that led to where a claim fails: its place in the run, that of the event to which it led, and what it did
 abbrev pub cause_data : Cause → Data
@@ -93,12 +105,15 @@ unknown_data n words tried =
     object (member (codes "claim") (number_data n) (member (codes "text") (string words) (member (codes "tried") tried (member (codes "verdict") (string (word_text Unknown)) no_members))))
 
 -- the value for the claim of this number says what its verdict says
-abbrev pub IsClaimData : Names → ℕ → Claim → Verdict → Data → Type 0
-IsClaimData names n claim (verdict.Holds splits None) d = d ≡ held_data n splits (claim_words names claim)
-IsClaimData names n claim (verdict.Holds splits (Some why)) d =
-    d ≡ empty_data n (why_data names why) splits (claim_words names claim)
-IsClaimData names n claim (verdict.Fails run) d = IsFailedData names n claim run d
-IsClaimData names n claim (verdict.Unknown tried) d = d ≡ unknown_data n (claim_words names claim) (tried_data tried)
+abbrev pub IsClaimData : RuleSet → Names → ℕ → Claim → Verdict → Data → Type 0
+IsClaimData rules names n claim (verdict.Holds certificate splits None) d =
+    (tree : Data) × IsTreeData rules names certificate tree × (d ≡ held_data n splits (claim_words names claim) tree)
+IsClaimData rules names n claim (verdict.Holds certificate splits (Some why)) d =
+    (tree : Data) × IsTreeData rules names certificate tree
+    × (d ≡ empty_data n (why_data names why) splits (claim_words names claim) tree)
+IsClaimData rules names n claim (verdict.Fails run) d = IsFailedData names n claim run d
+IsClaimData rules names n claim (verdict.Unknown tried) d =
+    d ≡ unknown_data n (claim_words names claim) (tried_data tried)
 
 -- the value with the name of the claim, if it has one
 abbrev pub IsNamed : Option (List ℕ) → Data → Data → Type 0
@@ -106,20 +121,21 @@ IsNamed None plain d = d ≡ plain
 IsNamed (Some name) plain d = (ms : Members) × (plain ≡ object ms) × (d ≡ object (put (codes "name") (string name) ms))
 
 -- the value for the claim of this number says what its verdict says, and its name, if it has one
-abbrev pub IsNamedData : Names → ℕ → Told → Data → Type 0
-IsNamedData names n told d = (plain : Data) × IsClaimData names n told.claim told.verdict plain × IsNamed told.name plain d
+abbrev pub IsNamedData : RuleSet → Names → ℕ → Told → Data → Type 0
+IsNamedData rules names n told d =
+    (plain : Data) × IsClaimData rules names n told.claim told.verdict plain × IsNamed told.name plain d
 
 -- how many claims there are, and how many of each word
-abbrev pub sums_data : List Verdict → Data
-sums_data verdicts =
-    object (member (codes "claims") (number_data (length verdicts)) (member (codes "empty") (number_data (count_of verdicts Empty)) (member (codes "fails") (number_data (count_of verdicts Fails)) (member (codes "holds") (number_data (count_of verdicts Holds)) (member (codes "unknown") (number_data (count_of verdicts Unknown)) no_members)))))
+abbrev pub sums_data : List Word → Data
+sums_data words =
+    object (member (codes "claims") (number_data (length words)) (member (codes "empty") (number_data (count_of words Empty)) (member (codes "fails") (number_data (count_of words Fails)) (member (codes "holds") (number_data (count_of words Holds)) (member (codes "unknown") (number_data (count_of words Unknown)) no_members)))))
 
 -- the whole value, with one for each claim
-abbrev pub verdicts_data : List Data → List Verdict → Data
-verdicts_data claims verdicts = object (member (codes "claims") (array (items_of claims)) (member (codes "sums") (sums_data verdicts) no_members))
+abbrev pub verdicts_data : List Data → List Word → Data
+verdicts_data claims words = object (member (codes "claims") (array (items_of claims)) (member (codes "sums") (sums_data words) no_members))
 
 -- the text is read as a value that says of each claim what its verdict says, in their order; a line break follows
-abbrev pub IsJson : Names → List Told → List Verdict → List ℕ → Type 0
-IsJson names claims verdicts text =
-    (values : List Data) × (json : List ℕ) × AreNumbered (IsNamedData names) 1 claims values
-    × (read json ≡ Some (verdicts_data values verdicts)) × (text ≡ json ++ codes "\n")
+abbrev pub IsJson : RuleSet → Names → List Told → List Verdict → List ℕ → Type 0
+IsJson rules names claims verdicts text =
+    (values : List Data) × (json : List ℕ) × AreNumbered (IsNamedData rules names) 1 claims values
+    × (read json ≡ Some (verdicts_data values (map word_of verdicts))) × (text ≡ json ++ codes "\n")

@@ -1,5 +1,5 @@
 -- The verdicts as test cases, in the form of JUnit.
-use Rattle.std.specs.Prelude.{◌≡◌, ℕ, ◌-◌, ◌==◌, List, ◌++◌, codes, decimal, flat_map, length, string_bytes, if◌then◌else◌}
+use Rattle.std.specs.Prelude.{◌≡◌, ℕ, ◌-◌, ◌==◌, List, ◌++◌, codes, decimal, flat_map, length, map, string_bytes, if◌then◌else◌}
 use Rattle.std.specs.Char.{encode_utf8}
 use Rattle.tpl_draft.specs.Named.{Names}
 use Rattle.tpl_reasons.specs.Spelling.{spelled_by}
@@ -8,7 +8,7 @@ use Rattle.tpl_verdicts.specs.declared.entry.Entry.{Entry}
 use Rattle.tpl_verdicts.specs.declared.word.Word.{Word}
 use Rattle.tpl_verdicts.specs.declared.word.Word.TheVariants.{Holds, Fails, Empty, Unknown}
 use Rattle.tpl_verdicts.specs.Told.{Told}
-use Rattle.tpl_verdicts.specs.Words.{count_of, word_text}
+use Rattle.tpl_verdicts.specs.Words.{count_of, word_of, word_text}
 use Rattle.tpl_verdicts.specs.Lines.{AreNumbered, IsEntry}
 
 -- what is said where a claim doesn't hold, or says nothing
@@ -52,9 +52,9 @@ case_text entry =
     codes "<testcase classname=\"claims\" name=\"claim " ++ (decimal entry.number ++ (xml (string_bytes entry.title) ++ (codes ": " ++ (xml (string_bytes entry.words) ++ (codes "\" time=\"0\"" ++ outcome_text entry.word (flat_map (λ line. xml (string_bytes line)) entry.lines.items))))))
 
 -- what stands before the first test case
-abbrev pub opening : List Verdict → List ℕ
-opening verdicts =
-    codes "<?xml version=\"1.0\" encoding=\"UTF-8\"?>\n<testsuites>\n<testsuite package=\"taskgraph\" id=\"0\" name=\"claims\" timestamp=\"1970-01-01T00:00:00\" hostname=\"localhost\" tests=\"" ++ (decimal (length verdicts) ++ (codes "\" failures=\"" ++ (decimal (length verdicts - count_of verdicts Holds) ++ codes "\" errors=\"0\" time=\"0\">\n<properties/>\n")))
+abbrev pub opening : List Word → List ℕ
+opening words =
+    codes "<?xml version=\"1.0\" encoding=\"UTF-8\"?>\n<testsuites>\n<testsuite package=\"taskgraph\" id=\"0\" name=\"claims\" timestamp=\"1970-01-01T00:00:00\" hostname=\"localhost\" tests=\"" ++ (decimal (length words) ++ (codes "\" failures=\"" ++ (decimal (length words - count_of words Holds) ++ codes "\" errors=\"0\" time=\"0\">\n<properties/>\n")))
 
 -- what stands behind the last one
 abbrev pub closing : List ℕ
@@ -64,4 +64,4 @@ closing = codes "<system-out/>\n<system-err/>\n</testsuite>\n</testsuites>\n"
 abbrev pub IsJunit : Names → List Told → List Verdict → List ℕ → Type 0
 IsJunit names claims verdicts text =
     (entries : List Entry) × AreNumbered (IsEntry names) 1 claims entries
-    × (text ≡ opening verdicts ++ flat_map case_text entries ++ closing)
+    × (text ≡ opening (map word_of verdicts) ++ flat_map case_text entries ++ closing)

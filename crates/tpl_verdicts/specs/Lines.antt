@@ -10,6 +10,7 @@ use Rattle.tpl_verify.specs.declared.verdict.Empty.TheVariants.{NeverBegins, Nam
 use Rattle.tpl_verify.specs.declared.verdict.Verdict.{Verdict}
 use Rattle.tpl_verify.specs.declared.verdict.Verdict.TheVariants as verdict
 use Rattle.tpl_verdicts.specs.declared.entry.Entry.{Entry}
+use Rattle.tpl_verdicts.specs.declared.word.Word.{Word}
 use Rattle.tpl_verdicts.specs.declared.word.Word.TheVariants.{Holds, Fails, Empty, Unknown}
 use Rattle.tpl_reasons.specs.Spelling.{said_name}
 use Rattle.tpl_reasons.specs.Words.{claim_words, input_words}
@@ -54,8 +55,8 @@ AddsCauses run old new =
 -- the lines that belong to a claim: of one that holds none; of one that is empty why it is; of one that fails the run, and how it
 -- came to where the claim fails
 abbrev pub AreLines : Names → ℕ → Verdict → List (List ℕ) → Type 0
-AreLines names number (verdict.Holds splits None) lines = lines ≡ []
-AreLines names number (verdict.Holds splits (Some why)) lines = lines ≡ why_line names why ∷ []
+AreLines names number (verdict.Holds certificate splits None) lines = lines ≡ []
+AreLines names number (verdict.Holds certificate splits (Some why)) lines = lines ≡ why_line names why ∷ []
 AreLines names number (verdict.Fails run) lines = AddsCauses run (run_lines names number run) lines
 AreLines names number (verdict.Unknown tried) lines = Unit {0}
 
@@ -82,12 +83,12 @@ entry_text entry =
     codes "claim " ++ (decimal entry.number ++ (string_bytes entry.title ++ (codes " " ++ (word_text entry.word ++ (codes ": " ++ (string_bytes entry.words ++ (codes "\n" ++ flat_map (λ line. indented (string_bytes line)) entry.lines.items)))))))
 
 -- the last line: how many claims there are, and how many of each word
-abbrev pub sums_line : List Verdict → List ℕ
-sums_line verdicts =
-    codes "claims " ++ (decimal (length verdicts) ++ (codes ", holds " ++ (decimal (count_of verdicts Holds) ++ (codes ", fails " ++ (decimal (count_of verdicts Fails) ++ (codes ", empty " ++ (decimal (count_of verdicts Empty) ++ (codes ", unknown " ++ (decimal (count_of verdicts Unknown) ++ codes "\n")))))))))
+abbrev pub sums_line : List Word → List ℕ
+sums_line words =
+    codes "claims " ++ (decimal (length words) ++ (codes ", holds " ++ (decimal (count_of words Holds) ++ (codes ", fails " ++ (decimal (count_of words Fails) ++ (codes ", empty " ++ (decimal (count_of words Empty) ++ (codes ", unknown " ++ (decimal (count_of words Unknown) ++ codes "\n")))))))))
 
 -- the text says of each claim what its verdict says, in their order, and then how many of each word there are
 abbrev pub IsText : Names → List Told → List Verdict → List ℕ → Type 0
 IsText names claims verdicts text =
     (entries : List Entry) × AreNumbered (IsEntry names) 1 claims entries
-    × (text ≡ flat_map entry_text entries ++ sums_line verdicts)
+    × (text ≡ flat_map entry_text entries ++ sums_line (map word_of verdicts))

@@ -1,21 +1,20 @@
 -- What `verify` leaves behind.
 use Rattle.std.specs.Prelude.{◌≡◌, ◌⊎◌, ◌≤◌, ◌++◌, ℕ, List, codes, length, Option}
-use Rattle.std.specs.List.{All}
 use Rattle.tpl_journal.specs.declared.counting.Counting.{Counting}
 use Rattle.tpl_reader.specs.Document.{DocumentValue, Spells, longest}
 use Rattle.tpl_commands.specs.declared.exit.Exit.{Exit}
-use Rattle.tpl_commands.specs.declared.exit.Exit.TheVariants.{Device, Memory, Success}
+use Rattle.tpl_commands.specs.declared.exit.Exit.TheVariants.{Device, Memory}
 use Rattle.tpl_commands.specs.Rules.{rules_of}
 use Rattle.tpl_commands.specs.Responding.{Puts, Reads, Responds, Says}
 use Rattle.tpl_series.specs.declared.stop.Stop.{Stop}
 use Rattle.tpl_series.specs.declared.stop.Stop.TheVariants as stop
 use Rattle.tpl_verify.specs.declared.verdict.Verdict.{Verdict}
-use Rattle.tpl_verify.specs.Verdicts.{HoldsAlways}
 use Rattle.tpl_verdicts.specs.declared.style.Style.{Style}
 use Rattle.tpl_verdicts.specs.declared.style.Style.TheVariants.{Text}
 use Rattle.tpl_verdicts.specs.Answer.{IsExit, IsVerified, Verifies}
 use Rattle.tpl_verdicts.specs.Asked.{AreFirst}
 use Rattle.tpl_verdicts.specs.Lines.{sums_line}
+use Rattle.tpl_verdicts.specs.declared.word.Word.{Word}
 
 -- What the verdicts on the first claims of the document are was written as text, and then that memory was refused; or a write
 -- of this failed.
@@ -31,11 +30,10 @@ IsStreamed contents old new depth runs bytes doc result =
     ((exit : Exit) × (text : List ℕ) × IsVerified depth runs Text bytes doc exit text × Puts contents old new exit text result)
     ⊎ BreaksOff contents old new depth runs doc result
 
--- how many verdicts of each word there are was written, and the program ends by them; or that memory was refused
-abbrev pub PutsSums : {W : Type 0} → (W → Option (List ℕ)) → Counting W → Counting W → DocumentValue → List Verdict → Exit → Type 0
-PutsSums contents old new doc verdicts result =
-    ((exit : Exit) × IsExit verdicts exit × (exit ≡ Success → All (HoldsAlways doc.graph.graph) doc.claims)
-    × Puts contents old new exit (sums_line verdicts) result)
+-- how many verdicts there are of each word was written, and the program ends by them; or that memory was refused
+abbrev pub PutsSums : {W : Type 0} → (W → Option (List ℕ)) → Counting W → Counting W → List Word → Exit → Type 0
+PutsSums contents old new words result =
+    ((exit : Exit) × IsExit words exit × Puts contents old new exit (sums_line words) result)
     ⊎ Puts contents old new Memory (codes "out of memory\n") result
 
 -- that memory was refused was written; or a write had failed, and nothing was written

@@ -8,8 +8,8 @@ use Rattle.tpl_verdicts.specs.declared.word.Word.TheVariants.{Holds, Fails, Empt
 
 -- the word for a verdict
 abbrev pub word_of : Verdict → Word
-word_of (verdict.Holds splits None) = Holds
-word_of (verdict.Holds splits (Some why)) = Empty
+word_of (verdict.Holds certificate splits None) = Holds
+word_of (verdict.Holds certificate splits (Some why)) = Empty
 word_of (verdict.Fails run) = Fails
 word_of (verdict.Unknown tried) = Unknown
 
@@ -20,6 +20,10 @@ word_text Fails = codes "fails"
 word_text Empty = codes "empty"
 word_text Unknown = codes "unknown"
 
+-- the claim holds, and nothing says that it is empty
+abbrev pub SaysHolds : Word → Type 0
+SaysHolds word = word ≡ Holds
+
 -- both are the same word
 abbrev pub same_word : Word → Word → Bool
 same_word Holds Holds = true
@@ -28,14 +32,14 @@ same_word Empty Empty = true
 same_word Unknown Unknown = true
 same_word one other = false
 
--- how many of the verdicts have this word
-abbrev pub count_of : List Verdict → Word → ℕ
-count_of verdicts word = count_by (λ v. same_word (word_of v) word) verdicts
+-- how many of the words are this one
+abbrev pub count_of : List Word → Word → ℕ
+count_of words word = count_by (λ one. same_word one word) words
 
 -- how many claims there are, and how many of each word
-pub record AreSums (verdicts : List Verdict) (sums : Sums) : Type 0 where
-  pub claims : sums.claims ≡ length verdicts
-  pub holds : sums.holds ≡ count_of verdicts Holds
-  pub fails : sums.fails ≡ count_of verdicts Fails
-  pub empty : sums.empty ≡ count_of verdicts Empty
-  pub unknown : sums.unknown ≡ count_of verdicts Unknown
+pub record AreSums (words : List Word) (sums : Sums) : Type 0 where
+  pub claims : sums.claims ≡ length words
+  pub holds : sums.holds ≡ count_of words Holds
+  pub fails : sums.fails ≡ count_of words Fails
+  pub empty : sums.empty ≡ count_of words Empty
+  pub unknown : sums.unknown ≡ count_of words Unknown

@@ -3,7 +3,7 @@
 ghost use Rattle.std.specs.Prelude.{◌≡◌, ◌+◌, ◌<◌, length, map, option_map, IfOk, Some, slice_get, string_bytes, All};
 ghost use Rattle.tpl_graph.specs.Prelude.{Fits};
 ghost use Rattle.tpl_series.specs.Prelude.{IsNext};
-ghost use Rattle.tpl_verdicts.specs.Prelude.{IsOneOf, IsRight, TellsFirst, names_of, told_of, told_there};
+ghost use Rattle.tpl_verdicts.specs.Prelude.{IsOneOf, IsRight, TellsFirst, names_of, told_of, told_there, word_of};
 ghost use Rattle.tpl_verdicts.specs.declared.asked.Asked.{Asked};
 ghost use Rattle.tpl_verify.specs.declared.verdict.Verdict.{Verdict};
 
@@ -11,6 +11,7 @@ use crate::entries::entry_of;
 use crate::judgement::{Judgement, name_at};
 use crate::searched::Searched;
 use crate::text::entry_text;
+use crate::word::{Word, word_of};
 use std::alloc::{AllocError, Global};
 use tpl_graph::{Claim, Graph};
 use tpl_series::Tell;
@@ -65,9 +66,13 @@ impl<'d> Asked<'d> {
 }
 
 impl Tell<Verdict> for Asked<'_> {
+    type Kept = Word;
+
     ghost fits = { IsOneOf };
 
     ghost tells = { TellsFirst };
+
+    ghost keep = { word_of };
 
     fn text(&self, alloc: Global, place: usize, value: &Verdict) -> Result<String, AllocError> {
         let Asked {
@@ -83,5 +88,9 @@ impl Tell<Verdict> for Asked<'_> {
             searched,
         };
         asked.lines_at(alloc, place, value)
+    }
+
+    fn kept(&self, value: &Verdict) -> Word {
+        word_of(value)
     }
 }

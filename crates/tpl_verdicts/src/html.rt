@@ -20,8 +20,8 @@ pub(crate) fn html_of(
     requires document { IsUtf8 (behind_mark bytes.now) }
     requires right { AreRight all.now }
     ensures { IfOk result (λ text.
-        IsHtml (behind_mark bytes.now) all.now.graph.now.names (all_told all.now)
-        all.now.verdicts.now (string_bytes text)) }
+        IsHtml (behind_mark bytes.now) all.now.searched.rules all.now.graph.now.names
+        (all_told all.now) all.now.verdicts.now (string_bytes text)) }
 {
     let lines = text_of(alloc, all)?;
     let verdicts = json_of(alloc, all)?;

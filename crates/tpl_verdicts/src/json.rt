@@ -7,11 +7,13 @@ ghost use Rattle.tpl_graph.specs.Prelude.{Fits};
 ghost use Rattle.tpl_journal.specs.Prelude.{CanSpell};
 ghost use Rattle.tpl_reasons.specs.Prelude.{claim_words};
 ghost use Rattle.tpl_verdicts.specs.Prelude.{AreNumbered, AreRight, IsClaimData, IsFailedData, IsJson, IsNamed, IsNamedData, IsRight, IsRunData, all_told, empty_data, failed_data, held_data, ran_out_word, sums_data, tried_data, unknown_data, verdicts_data, why_data};
-ghost use Rattle.tpl_verify.specs.Prelude.{AreFirst, IsEmpty};
+ghost use Rattle.tpl_verify.specs.Prelude.{AreFirst, IsEmpty, IsHeld};
 
 use crate::causes::causes_value;
 use crate::judgement::{Judgement, Judgements};
 use crate::sums::sums_of;
+use crate::tree::tree_value;
+use crate::word::{Word, words_of};
 use serde_json::{Value, json};
 use std::alloc::{AllocError, Global};
 use tpl_analyser::RanOut;
@@ -21,6 +23,7 @@ use tpl_model::Inputs;
 use tpl_reasons::claim_words;
 use tpl_refute::Counterexample;
 use tpl_shown::name_of;
+use tpl_trees::Certificate;
 use tpl_verify::{Empty, Tried, Verdict, input_members, journal_text};
 
 /// Why a claim says nothing, by a word.
@@ -101,10 +104,19 @@ fn run_value(alloc: Global, graph: &Graph, run: &Counterexample) -> Result<Value
 }
 
 /// What is said of a claim that holds.
-fn held_value(alloc: Global, number: usize, splits: u8, text: String) -> Result<Value, AllocError>
-    ensures { IfOk result (λ v. view v ≡ held_data number splits (string_bytes text)) }
+fn held_value(
+    alloc: Global,
+    number: usize,
+    splits: u8,
+    text: String,
+    tree: Value,
+) -> Result<Value, AllocError>
+    ensures { IfOk result (λ v.
+        view v ≡ held_data number splits (string_bytes text) (view tree)) }
 {
-    json!(in alloc; {"claim": number, "splits": splits, "text": text, "verdict": "holds"})
+    json!(in alloc; {
+        "claim": number, "splits": splits, "text": text, "tree": tree, "verdict": "holds"
+    })
 }
 
 /// What is said of a claim that holds and says nothing.
@@ -114,12 +126,14 @@ fn empty_value(
     empty: Value,
     splits: u8,
     text: String,
+    tree: Value,
 ) -> Result<Value, AllocError>
     ensures { IfOk result (λ v.
-        view v ≡ empty_data number (view empty) splits (string_bytes text)) }
+        view v ≡ empty_data number (view empty) splits (string_bytes text) (view tree)) }
 {
     json!(in alloc; {
-        "claim": number, "empty": empty, "splits": splits, "text": text, "verdict": "empty"
+        "claim": number, "empty": empty, "splits": splits, "text": text, "tree": tree,
+        "verdict": "empty"
     })
 }
 
@@ -175,11 +189,47 @@ fn unknown_value(
     json!(in alloc; {"claim": number, "text": text, "tried": tried, "verdict": "unknown"})
 }
 
+/// What is said of a claim with these words that holds by this certificate, and why it says nothing, if it does.
+fn holding_value(
+    alloc: Global,
+    judgement: &Judgement<'_>,
+    certificate: &Certificate,
+    splits: u8,
+    why: Option<Empty>,
+    text: String,
+) -> Result<Value, AllocError>
+    requires fits { Fits judgement.now.graph.now.graph judgement.now.claim.now }
+    requires held { IsHeld judgement.now.searched.rules judgement.now.graph.now.graph
+        judgement.now.claim.now certificate.now splits why }
+    requires text { string_bytes text
+        ≡ claim_words judgement.now.graph.now.names judgement.now.claim.now }
+    ensures { IfOk result (λ v. IsClaimData judgement.now.searched.rules
+        judgement.now.graph.now.names judgement.now.number judgement.now.claim.now
+        (Verdict.Holds certificate.now splits why) (view v)) }
+{
+    let Judgement {
+        graph,
+        claim,
+        number,
+        searched,
+        ..
+    } = *judgement;
+    let tree = tree_value(alloc, graph, claim, searched.rules, certificate, splits)?;
+    match why {
+        None => held_value(alloc, number, splits, text, tree),
+        Some(why) => {
+            let empty = why_value(alloc, graph, claim, why)?;
+            empty_value(alloc, number, empty, splits, text, tree)
+        }
+    }
+}
+
 /// What is said of a claim.
 fn claim_value(alloc: Global, judgement: &Judgement<'_>) -> Result<Value, AllocError>
     requires { IsRight judgement.now }
-    ensures { IfOk result (λ v. IsClaimData judgement.now.graph.now.names judgement.now.number
-        judgement.now.claim.now judgement.now.verdict.now (view v)) }
+    ensures { IfOk result (λ v. IsClaimData judgement.now.searched.rules
+        judgement.now.graph.now.names judgement.now.number judgement.now.claim.now
+        judgement.now.verdict.now (view v)) }
 {
     spells_run();
     let Judgement {
@@ -191,16 +241,10 @@ fn claim_value(alloc: Global, judgement: &Judgement<'_>) -> Result<Value, AllocE
     let text = claim_words(alloc, graph, claim)?;
     match judgement.verdict {
         Verdict::Holds {
+            certificate,
             splits,
-            empty: None,
-        } => held_value(alloc, number, *splits, text),
-        Verdict::Holds {
-            splits,
-            empty: Some(why),
-        } => {
-            let empty = why_value(alloc, graph, claim, *why)?;
-            empty_value(alloc, number, empty, *splits, text)
-        }
+            empty,
+        } => holding_value(alloc, judgement, certificate, *splits, *empty, text),
         Verdict::Fails(run) => failing_value(alloc, judgement, run, text),
         Verdict::Unknown(tried) => {
             let tried = tried_value(alloc, *tried)?;
@@ -237,7 +281,8 @@ fn with_name(alloc: Global, value: Value, name: Option<&str>) -> Result<Value, A
 /// What is said of each claim.
 fn claim_values(alloc: Global, all: &Judgements<'_>) -> Result<Vec<Value>, AllocError>
     requires { AreRight all.now }
-    ensures { IfOk result (λ values. AreNumbered (IsNamedData all.now.graph.now.names) 1
+    ensures { IfOk result (λ values.
+        AreNumbered (IsNamedData all.now.searched.rules all.now.graph.now.names) 1
         (all_told all.now) (map view values.items)) }
 {
     let mut values = Vec::new(alloc);
@@ -251,10 +296,10 @@ fn claim_values(alloc: Global, all: &Judgements<'_>) -> Result<Vec<Value>, Alloc
 }
 
 /// How many claims there are, and how many of each word.
-fn sums_value(alloc: Global, verdicts: &[Verdict]) -> Result<Value, AllocError>
-    ensures { IfOk result (λ v. view v ≡ sums_data verdicts.now) }
+fn sums_value(alloc: Global, words: &[Word]) -> Result<Value, AllocError>
+    ensures { IfOk result (λ v. view v ≡ sums_data words.now) }
 {
-    let sums = sums_of(verdicts);
+    let sums = sums_of(words);
     json!(in alloc; {
         "claims": sums.claims, "empty": sums.empty, "fails": sums.fails, "holds": sums.holds,
         "unknown": sums.unknown
@@ -262,10 +307,10 @@ fn sums_value(alloc: Global, verdicts: &[Verdict]) -> Result<Value, AllocError>
 }
 
 /// The whole value.
-fn whole_value(alloc: Global, claims: Vec<Value>, verdicts: &[Verdict]) -> Result<Value, AllocError>
-    ensures { IfOk result (λ v. view v ≡ verdicts_data (map view claims.items) verdicts.now) }
+fn whole_value(alloc: Global, claims: Vec<Value>, words: &[Word]) -> Result<Value, AllocError>
+    ensures { IfOk result (λ v. view v ≡ verdicts_data (map view claims.items) words.now) }
 {
-    let sums = sums_value(alloc, verdicts)?;
+    let sums = sums_value(alloc, words)?;
     json!(in alloc; {"claims": claims, "sums": sums})
 }
 
@@ -273,11 +318,12 @@ fn whole_value(alloc: Global, claims: Vec<Value>, verdicts: &[Verdict]) -> Resul
 pub(crate) fn json_of(alloc: Global, all: &Judgements<'_>) -> Result<String, AllocError>
     requires { AreRight all.now }
     ensures { IfOk result (λ text.
-        IsJson all.now.graph.now.names (all_told all.now) all.now.verdicts.now
-        (string_bytes text)) }
+        IsJson all.now.searched.rules all.now.graph.now.names (all_told all.now)
+        all.now.verdicts.now (string_bytes text)) }
 {
     let values = claim_values(alloc, all)?;
-    let mut text = whole_value(alloc, values, all.verdicts)?.to_string(alloc)?;
+    let words = words_of(alloc, all.verdicts)?;
+    let mut text = whole_value(alloc, values, &words)?.to_string(alloc)?;
     text.push_str("\n")?;
     Ok(text)
 }

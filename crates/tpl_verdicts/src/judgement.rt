@@ -50,6 +50,7 @@ impl<'d> Judgements<'d> {
         requires place { place < length self.now.verdicts.now }
         ensures right { IsRight result }
         ensures graph { result.graph.now ≡ self.now.graph.now }
+        ensures rules { result.searched.rules ≡ self.now.searched.rules }
         ensures number { result.number ≡ place + 1 }
         ensures told { slice_get (all_told self.now) place ≡ Some (told_of result) }
     {

@@ -8,9 +8,8 @@ use crate::entries::entries;
 use crate::entry::Entry;
 use crate::judgement::Judgements;
 use crate::sums::count_of;
-use crate::word::Word;
+use crate::word::{Word, words_of};
 use std::alloc::{AllocError, Global};
-use tpl_verify::Verdict;
 
 /// What stands behind the last test case.
 const CLOSING: &str = "<system-out/>\n<system-err/>\n</testsuite>\n</testsuites>\n";
@@ -106,11 +105,11 @@ fn case_text(alloc: Global, entry: &Entry) -> Result<String, AllocError>
 }
 
 /// What stands before the first test case.
-fn opening(alloc: Global, verdicts: &[Verdict]) -> Result<String, AllocError>
-    ensures { IfOk result (λ text. string_bytes text ≡ opening verdicts.now) }
+fn opening(alloc: Global, words: &[Word]) -> Result<String, AllocError>
+    ensures { IfOk result (λ text. string_bytes text ≡ opening words.now) }
 {
-    let tests = verdicts.len();
-    let failures = tests.saturating_sub(count_of(verdicts, Word::Holds));
+    let tests = words.len();
+    let failures = tests.saturating_sub(count_of(words, Word::Holds));
     format!(in alloc;
         "<?xml version=\"1.0\" encoding=\"UTF-8\"?>\n<testsuites>\n<testsuite package=\"taskgraph\" id=\"0\" name=\"claims\" timestamp=\"1970-01-01T00:00:00\" hostname=\"localhost\" tests=\"{tests}\" failures=\"{failures}\" errors=\"0\" time=\"0\">\n<properties/>\n"
     )
@@ -135,7 +134,8 @@ pub(crate) fn junit_of(alloc: Global, all: &Judgements<'_>) -> Result<String, Al
         (string_bytes text)) }
 {
     let entries = entries(alloc, all)?;
-    let mut text = opening(alloc, all.verdicts)?;
+    let words = words_of(alloc, all.verdicts)?;
+    let mut text = opening(alloc, &words)?;
     add_cases(&mut text, alloc, &entries)?;
     text.push_str(CLOSING)?;
     Ok(text)

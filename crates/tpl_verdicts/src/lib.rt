@@ -31,6 +31,7 @@ mod streaming;
 mod style;
 mod sums;
 mod text;
+mod tree;
 mod verification;
 mod verifying;
 mod word;

@@ -9,14 +9,15 @@ ghost use Rattle.tpl_reader.specs.Prelude.{Spells, doc_of, longest};
 ghost use Rattle.tpl_series.specs.Prelude.{IsStopped, TellsAll};
 ghost use Rattle.tpl_verdicts.specs.Prelude.{AnswersBytes, IsExit, IsStreamed, Judged, PutsStop, PutsSums, Streams, TellsFirst, Verified, sums_line};
 ghost use Rattle.tpl_verdicts.specs.declared.asked.Asked.{Asked};
-ghost use Rattle.tpl_verify.specs.Prelude.{HoldsAlways, IsVerdict, KeepsTo};
+ghost use Rattle.tpl_verify.specs.Prelude.{IsVerdict, KeepsTo};
 
 use crate::asked::Asked;
 use crate::searched::Searched;
 use crate::style::Style;
 use crate::sums::sums_line;
 use crate::verification::Verification;
-use crate::verifying::{answer_beside, exit_of, judgements_of};
+use crate::verifying::{answer_beside, exit_of};
+use crate::word::Word;
 use std::alloc::{AllocError, Global};
 use std::io::{Read, Write};
 use std::sync::Wait;
@@ -25,53 +26,37 @@ use tpl_commands::{Answer, Answered, Exit, Listen, put_answered, read_input, rul
 use tpl_journal::Counting;
 use tpl_reader::{Document, read_document_heard};
 use tpl_series::Stop;
-use tpl_verify::{Attend, Limits, Verdict, verify_in_order};
+use tpl_verify::{Attend, verify_in_order};
 
-/// What stands behind the lines for all claims of the document, and how the program ends.
-fn ending_of(
-    alloc: Global,
-    limits: &Limits,
-    document: &Document,
-    verdicts: &[Verdict],
-) -> Result<Answered, AllocError>
-    requires claims { All (Fits document.now.graph.graph) document.now.claims.items }
-    requires verdicts { AllZip (IsVerdict (rules_of (doc_of document.now))
-        document.now.graph.graph) document.now.claims.items verdicts.now }
-    ensures ends { IfOk result (λ it. IsExit verdicts.now it.answer.exit) }
-    ensures sound { IfOk result (λ it. it.answer.exit ≡ Exit.Success
-        → All (HoldsAlways document.now.graph.graph) document.now.claims.items) }
-    ensures text { IfOk result (λ it. string_bytes it.answer.text ≡ sums_line verdicts.now) }
+/// What stands behind the lines for all claims, with these words for the verdicts on them, and how the program ends.
+fn ending_of(alloc: Global, words: &[Word]) -> Result<Answered, AllocError>
+    ensures ends { IfOk result (λ it. IsExit words.now it.answer.exit) }
+    ensures text { IfOk result (λ it. string_bytes it.answer.text ≡ sums_line words.now) }
     ensures found { IfOk result (λ it. it.finding ≡ None) }
 {
-    let text = sums_line(alloc, verdicts)?;
-    let exit = exit_of(&judgements_of(document, verdicts, limits));
+    let text = sums_line(alloc, words)?;
+    let exit = exit_of(words);
     Ok(Answered {
         answer: Answer { exit, text },
         finding: None,
     })
 }
 
-/// Writes what stands behind the lines for the claims of the document that were told.
+/// Writes what stands behind the lines for the claims that were told, with these words for the verdicts on them.
 fn put_ending<L: Listen, W: Write>(
     alloc: Global,
-    limits: &Limits,
     listener: L,
     bytes: &[u8],
-    document: &Document,
-    told: Result<Vec<Verdict>, Stop>,
+    told: Result<Vec<Word>, Stop>,
     to: &mut Counting<W>,
 ) -> Exit
-    requires spelled { Spells bytes.now (doc_of document.now) }
-    requires claims { All (Fits document.now.graph.graph) document.now.claims.items }
-    requires verdicts { IfOk told (λ verdicts. AllZip (IsVerdict (rules_of (doc_of document.now))
-        document.now.graph.graph) document.now.claims.items verdicts.items) }
     ensures { MatchResult told
-        (λ verdicts. PutsSums W.contents to.old to.new (doc_of document.now) verdicts.items result)
+        (λ words. PutsSums W.contents to.old to.new words.items result)
         (λ stop. PutsStop W.contents to.old to.new stop result) }
 {
     match told {
-        Ok(verdicts) => {
-            let ending = ending_of(alloc, limits, document, &verdicts);
+        Ok(words) => {
+            let ending = ending_of(alloc, &words);
             put_answered(ending, listener, bytes, to)
         }
         Err(Stop::Memory) => put_answered(Err(AllocError), listener, bytes, to),
@@ -115,7 +100,7 @@ fn stream<T: Threads + Wait + Sync, A: Attend + Sync, L: Listen, W: Write + Send
     let told = verify_in_order(
         rt, alloc, graph, claims, rules, limits, asked.jobs, attend, &telling, to,
     );
-    put_ending(alloc, limits, listener, bytes, document, told, to)
+    put_ending(alloc, listener, bytes, told, to)
 }
 
 /// Writes the answer to the document that the bytes spell.

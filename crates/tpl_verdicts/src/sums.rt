@@ -3,9 +3,8 @@
 ghost use Rattle.std.specs.Prelude.{◌≡◌, IfOk, string_bytes};
 ghost use Rattle.tpl_verdicts.specs.Prelude.{AreSums, count_of, sums_line};
 
-use crate::word::{Word, same_word, word_of};
+use crate::word::{Word, same_word};
 use std::alloc::{AllocError, Global};
-use tpl_verify::Verdict;
 
 /// How many claims there are, and how many of each word.
 #[derive(Clone, Copy, Debug, Drop)]
@@ -17,32 +16,29 @@ pub(crate) struct Sums {
     pub(crate) unknown: usize,
 }
 
-/// How many of the verdicts have this word.
-pub(crate) fn count_of(verdicts: &[Verdict], word: Word) -> usize
-    ensures { result ≡ count_of verdicts.now word }
+/// How many of the words are this one.
+pub(crate) fn count_of(words: &[Word], word: Word) -> usize
+    ensures { result ≡ count_of words.now word }
 {
-    verdicts
-        .iter()
-        .filter(|verdict| same_word(word_of(verdict), word))
-        .count()
+    words.iter().filter(|one| same_word(**one, word)).count()
 }
 
-/// How many claims there are with these verdicts, and how many of each word.
-pub(crate) fn sums_of(verdicts: &[Verdict]) -> Sums
-    ensures { AreSums verdicts.now result }
+/// How many claims there are with these words for their verdicts, and how many of each word.
+pub(crate) fn sums_of(words: &[Word]) -> Sums
+    ensures { AreSums words.now result }
 {
     Sums {
-        claims: verdicts.len(),
-        holds: count_of(verdicts, Word::Holds),
-        fails: count_of(verdicts, Word::Fails),
-        empty: count_of(verdicts, Word::Empty),
-        unknown: count_of(verdicts, Word::Unknown),
+        claims: words.len(),
+        holds: count_of(words, Word::Holds),
+        fails: count_of(words, Word::Fails),
+        empty: count_of(words, Word::Empty),
+        unknown: count_of(words, Word::Unknown),
     }
 }
 
 /// The last line: how many claims there are, and how many of each word.
-pub(crate) fn sums_line(alloc: Global, verdicts: &[Verdict]) -> Result<String, AllocError>
-    ensures { IfOk result (λ text. string_bytes text ≡ sums_line verdicts.now) }
+pub(crate) fn sums_line(alloc: Global, words: &[Word]) -> Result<String, AllocError>
+    ensures { IfOk result (λ text. string_bytes text ≡ sums_line words.now) }
 {
     let Sums {
         claims,
@@ -50,7 +46,7 @@ pub(crate) fn sums_line(alloc: Global, verdicts: &[Verdict]) -> Result<String, A
         fails,
         empty,
         unknown,
-    } = sums_of(verdicts);
+    } = sums_of(words);
     format!(in alloc;
         "claims {claims}, holds {holds}, fails {fails}, empty {empty}, unknown {unknown}\n"
     )

@@ -7,6 +7,7 @@ use crate::entries::entries;
 use crate::entry::Entry;
 use crate::judgement::Judgements;
 use crate::sums::sums_line;
+use crate::word::words_of;
 use std::alloc::{AllocError, Global};
 
 /// Lines that belong to another one.
@@ -53,6 +54,7 @@ pub(crate) fn text_of(alloc: Global, all: &Judgements<'_>) -> Result<String, All
     let entries = entries(alloc, all)?;
     let mut text = String::new(alloc);
     add_entries(&mut text, alloc, &entries)?;
-    text.push_str(sums_line(alloc, all.verdicts)?.as_str())?;
+    let words = words_of(alloc, all.verdicts)?;
+    text.push_str(sums_line(alloc, &words)?.as_str())?;
     Ok(text)
 }

@@ -1,12 +1,12 @@
 //! The verdicts on the claims of a document, as one text.
 
-ghost use Rattle.std.specs.Prelude.{◌≡◌, ◌<◌, None, IfOk, IsTrue, IsUtf8, string_bytes, All};
+ghost use Rattle.std.specs.Prelude.{◌≡◌, ◌↔◌, ◌<◌, None, IfOk, IsTrue, IsUtf8, string_bytes, All};
 ghost use Rattle.std.specs.List.{AllZip};
 ghost use Rattle.tpl_commands.specs.Prelude.{is_verdict, rules_of};
 ghost use Rattle.tpl_graph.specs.Prelude.{Fits};
 ghost use Rattle.tpl_reader.specs.Prelude.{Spells, behind_mark, doc_of};
-ghost use Rattle.tpl_verdicts.specs.Prelude.{AreRight, IsExit, IsStyled, IsVerified, Verifies, all_told, told};
-ghost use Rattle.tpl_verify.specs.Prelude.{HoldsAlways, IsVerdict, KeepsTo};
+ghost use Rattle.tpl_verdicts.specs.Prelude.{AreRight, IsExit, IsStyled, IsVerified, SaysHolds, Verifies, all_told, told};
+ghost use Rattle.tpl_verify.specs.Prelude.{IsVerdict, KeepsTo};
 
 use crate::html::html_of;
 use crate::json::json_of;
@@ -16,21 +16,26 @@ use crate::searched::Searched;
 use crate::style::Style;
 use crate::text::text_of;
 use crate::verification::Verification;
+use crate::word::{Word, words_of};
 use std::alloc::{AllocError, Global};
 use std::thread::Threads;
 use tpl_commands::{Answer, Answered, Command, Exit, rules_of, unread};
 use tpl_reader::{Document, Unheard, read_document_heard};
-use tpl_verify::{Attend, Limits, Verdict, all_hold, verify, verify_beside};
+use tpl_verify::{Attend, Limits, Verdict, verify, verify_beside};
 
-/// How the program ends with these verdicts. Where there is none, nothing was verified, which is no success.
-pub(crate) fn exit_of(all: &Judgements<'_>) -> Exit
-    requires { AreRight all.now }
-    ensures ends { IsExit all.now.verdicts.now result }
-    ensures sound { result ≡ Exit.Success
-        → All (HoldsAlways all.now.graph.now.graph) all.now.claims.now }
+/// Each claim holds, and none is known to be empty.
+fn each_holds(words: &[Word]) -> bool
+    ensures { IsTrue result ↔ All SaysHolds words.now }
+{
+    words.iter().all(|word| word.says_holds())
+}
+
+/// How the program ends with these words for the verdicts. Where there is none, nothing was verified, which is no success.
+pub(crate) fn exit_of(words: &[Word]) -> Exit
+    ensures ends { IsExit words.now result }
     ensures answered { IsTrue (is_verdict result) }
 {
-    if !all.verdicts.is_empty() && all_hold(all.graph, all.claims, all.verdicts) {
+    if !words.is_empty() && each_holds(words) {
         Exit::Success
     } else {
         Exit::Failure
@@ -47,8 +52,8 @@ fn styled(
     requires document { IsUtf8 (behind_mark bytes.now) }
     requires right { AreRight all.now }
     ensures { IfOk result (λ text.
-        IsStyled style (behind_mark bytes.now) all.now.graph.now.names (all_told all.now)
-        all.now.verdicts.now (string_bytes text)) }
+        IsStyled style (behind_mark bytes.now) all.now.searched.rules all.now.graph.now.names
+        (all_told all.now) all.now.verdicts.now (string_bytes text)) }
 {
     match style {
         Style::Text => text_of(alloc, all),
@@ -68,6 +73,7 @@ pub(crate) fn judgements_of<'d>(
     requires verdicts { AllZip (IsVerdict (rules_of (doc_of document.now))
         document.now.graph.graph) document.now.claims.items verdicts.now }
     ensures right { AreRight result }
+    ensures rules { result.searched.rules ≡ rules_of (doc_of document.now) }
     ensures graph { result.graph.now ≡ document.now.graph }
     ensures claims { result.claims.now ≡ document.now.claims.items }
     ensures verdicts { result.verdicts.now ≡ verdicts.now }
@@ -108,7 +114,8 @@ fn answer_of(
 {
     let all = judgements_of(document, verdicts, limits);
     let text = styled(alloc, style, bytes, &all)?;
-    let exit = exit_of(&all);
+    let words = words_of(alloc, verdicts)?;
+    let exit = exit_of(&words);
     let (answer, finding) = (Answer { exit, text }, None);
     Ok(Answered { answer, finding })
 }

@@ -1,8 +1,9 @@
 //! The words for verdicts.
 
-ghost use Rattle.std.specs.Prelude.{◌≡◌};
-ghost use Rattle.tpl_verdicts.specs.Prelude.{same_word, word_of, word_text};
+ghost use Rattle.std.specs.Prelude.{◌≡◌, ◌↔◌, map, IfOk, IsTrue};
+ghost use Rattle.tpl_verdicts.specs.Prelude.{SaysHolds, same_word, word_of, word_text};
 
+use std::alloc::{AllocError, Global};
 use tpl_verify::Verdict;
 
 /// The word for a verdict.
@@ -30,6 +31,18 @@ impl Word {
             Word::Unknown => "unknown",
         }
     }
+
+    /// The claim holds, and nothing says that it is empty.
+    pub(crate) fn says_holds(&self) -> bool
+        ensures { IsTrue result ↔ SaysHolds self.now }
+    {
+        match self {
+            Word::Holds => true,
+            Word::Fails => false,
+            Word::Empty => false,
+            Word::Unknown => false,
+        }
+    }
 }
 
 /// The word for this verdict.
@@ -42,6 +55,17 @@ pub(crate) fn word_of(verdict: &Verdict) -> Word
         Verdict::Fails(_) => Word::Fails,
         Verdict::Unknown(_) => Word::Unknown,
     }
+}
+
+/// The word for each of these verdicts.
+pub(crate) fn words_of(alloc: Global, verdicts: &[Verdict]) -> Result<Vec<Word>, AllocError>
+    ensures { IfOk result (λ words. words.items ≡ map word_of verdicts.now) }
+{
+    let mut words = Vec::with_capacity(alloc, verdicts.len())?;
+    for verdict in verdicts {
+        words.push(word_of(verdict))?;
+    }
+    Ok(words)
 }
 
 /// Both are the same word.

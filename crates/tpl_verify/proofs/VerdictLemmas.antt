@@ -1,7 +1,7 @@
 -- From what is certified to what is answered.
-use Rattle.std.proofs.Common.{◌≡◌, ℕ, ◌+◌, ◌<◌, ◌≤◌, ◌++◌, Bool, true, false, is_some, Option, Some, None, List, [], ◌∷◌, length, map, take, subst, sym, refl, arith}
+use Rattle.std.proofs.Common.{◌≡◌, ℕ, ◌+◌, ◌<◌, ◌≤◌, ◌++◌, Bool, true, false, is_some, Option, Some, None, List, [], ◌∷◌, length, map, take, subst, sym, refl, ap, arith}
 use Rattle.std.specs.Prelude.{slice_index_or}
-use Rattle.std.specs.List.{All, AllByRecursion, AllZip}
+use Rattle.std.specs.List.{All, AllZip}
 use Rattle.tpl_model.specs.declared.ids.TaskId.{TaskId}
 use Rattle.tpl_model.specs.declared.finals.Final.{Final}
 use Rattle.tpl_model.specs.declared.finals.Final.TheVariants.{RanToCompletion, Canceled, Faulted}
@@ -24,10 +24,9 @@ use Rattle.tpl_laws.specs.ByRules.{AcceptsBy, SoundByRules}
 use Rattle.tpl_laws.specs.TokenTrees.{AcceptsWithTokens}
 use Rattle.tpl_trees.specs.Heights.{height}
 use Rattle.tpl_verify.specs.declared.verdict.Verdict.{Verdict}
-use Rattle.tpl_verify.specs.declared.verdict.Verdict.TheVariants as verdict
 use Rattle.std.proofs.lemmas.List.{take_more}
-use Rattle.std.proofs.lemmas.List.Elements.{All-from_recursion, All-push, recursion_from_All}
-use Rattle.tpl_verify.specs.Verdicts.{HasNoEnd, HoldsAlways, IsCertified, under, IsNeverKept, IsVerdict, KeepsTo, HoldsFully, no_end}
+use Rattle.std.proofs.lemmas.List.Elements.{All-push}
+use Rattle.tpl_verify.specs.Verdicts.{HasNoEnd, HoldsAlways, IsCertified, under, IsNeverKept, IsVerdict, KeepsTo, no_end}
 
 -- an accepted certificate of one claim has one tree
 one_plain : (g : TaskGraph) (claim : Claim) (trees : List Tree) → Accepts g (claim ∷ []) trees → length trees ≡ 1
@@ -44,19 +43,20 @@ one_tree-of : (rules : RuleSet) (g : TaskGraph) (claim : Claim) (trees : List Tr
 one_tree-of WithoutTokens g claim trees accepted = one_plain g claim trees accepted
 one_tree-of WithTokens g claim trees accepted = one_with_tokens g claim trees accepted
 
-only : (rules : RuleSet) (g : TaskGraph) (claim : Claim) (trees : List Tree) (n : ℕ) → length trees ≡ 1 → AcceptsBy rules g (claim ∷ []) trees → ((tree : Tree) → trees ≡ tree ∷ [] → n ≡ height tree) → IsCertified rules g claim n
-only rules g claim [] n one accepted splits = absurd (omega arith)
-only rules g claim (tree ∷ []) n one accepted splits = record { tree = tree; accepted = accepted; splits = sym (splits tree refl) }
-only rules g claim (tree ∷ other ∷ rest) n one accepted splits = absurd (omega arith)
+-- how many splits the only tree has
+only_height : (trees : List Tree) (n : ℕ) → length trees ≡ 1 → ((tree : Tree) → trees ≡ tree ∷ [] → n ≡ height tree) → map height trees ≡ n ∷ []
+only_height [] n one splits = absurd (omega arith)
+only_height (tree ∷ []) n one splits = ap (λ (m : ℕ). m ∷ []) (sym (splits tree refl))
+only_height (tree ∷ other ∷ rest) n one splits = absurd (omega arith)
 
 -- what is accepted for a list of one claim is accepted for the claim
 for_one : (rules : RuleSet) (g : TaskGraph) (claim : Claim) (claims : List Claim) (trees : List Tree) → claims ≡ claim ∷ [] → AcceptsBy rules g claims trees → AcceptsBy rules g (claim ∷ []) trees
 for_one rules g claim claims trees e accepted = subst (λ (z : List Claim). AcceptsBy rules g z trees) e accepted
 
-pub certified : (rules : RuleSet) (g : TaskGraph) (claim : Claim) (claims : List Claim) (trees : List Tree) (n : ℕ) → claims ≡ claim ∷ [] → AcceptsBy rules g claims trees → ((tree : Tree) → trees ≡ tree ∷ [] → n ≡ height tree) → IsCertified rules g claim n
+pub certified : (rules : RuleSet) (g : TaskGraph) (claim : Claim) (claims : List Claim) (trees : List Tree) (n : ℕ) → claims ≡ claim ∷ [] → AcceptsBy rules g claims trees → ((tree : Tree) → trees ≡ tree ∷ [] → n ≡ height tree) → IsCertified rules g claim trees n
 certified rules g claim claims trees n e accepted splits =
     let one = for_one rules g claim claims trees e accepted in
-    only rules g claim trees n (one_tree-of rules g claim trees one) one splits
+    record { accepted = one; splits = only_height trees n (one_tree-of rules g claim trees one) splits }
 
 pub one_tree : (rules : RuleSet) (g : TaskGraph) (claim : Claim) (claims : List Claim) (trees : List Tree) → claims ≡ claim ∷ [] → AcceptsBy rules g claims trees → length trees ≡ 1
 one_tree rules g claim claims trees e accepted = one_tree-of rules g claim trees (for_one rules g claim claims trees e accepted)
@@ -80,8 +80,8 @@ pub always : (rules : RuleSet) (g : TaskGraph) (claim : Claim) (claims : List Cl
 always rules g claim claims trees sound is e accepted v h run = (sound rules g (claim ∷ []) trees is (for_one rules g claim claims trees e accepted) v h run).0
 
 -- the tree without a split is accepted for the claim: it is certified
-pub at_once : (rules : RuleSet) (g : TaskGraph) (claim : Claim) → rules ≡ WithTokens → AcceptsWithTokens g (claim ∷ []) (LeastLeaf ∷ []) → IsCertified rules g claim 0
-at_once rules g claim e accepted = subst (λ r. IsCertified r g claim 0) (sym e) (record { tree = LeastLeaf; accepted = accepted; splits = refl })
+pub at_once : (rules : RuleSet) (g : TaskGraph) (claim : Claim) → rules ≡ WithTokens → AcceptsWithTokens g (claim ∷ []) (LeastLeaf ∷ []) → IsCertified rules g claim (LeastLeaf ∷ []) 0
+at_once rules g claim e accepted = subst (λ r. IsCertified r g claim (LeastLeaf ∷ []) 0) (sym e) (record { accepted = accepted; splits = refl })
 
 -- it holds in each run
 pub always_at_once : (g : TaskGraph) (claim : Claim) → SoundByRules → IsGraph g → AcceptsWithTokens g (claim ∷ []) (LeastLeaf ∷ []) → HoldsAlways g claim
@@ -127,19 +127,3 @@ verdict_more rules g claims verdicts more i claim v lt is so_far one pushed =
 pub within_more : (depth runs : ℕ) (verdicts more : List Verdict) (v : Verdict) → All (KeepsTo depth runs) verdicts → KeepsTo depth runs v → more ≡ verdicts ++ v ∷ [] → All (KeepsTo depth runs) more
 within_more depth runs verdicts more v all one pushed =
     subst (λ (z : List Verdict). All (KeepsTo depth runs) z) (sym pushed) (All-push (KeepsTo depth runs) verdicts v all one)
-
--- a claim whose verdict says that it holds does so
-held_always : (rules : RuleSet) (g : TaskGraph) (claim : Claim) (v : Verdict) → IsVerdict rules g claim v → HoldsFully v → HoldsAlways g claim
-held_always rules g claim (verdict.Holds splits empty) is holds = is.always
-held_always rules g claim (verdict.Fails run) is holds = absurd holds
-held_always rules g claim (verdict.Unknown tried) is holds = absurd holds
-
-each_held : (rules : RuleSet) (g : TaskGraph) (claims : List Claim) (verdicts : List Verdict) → AllZip (IsVerdict rules g) claims verdicts → AllByRecursion HoldsFully verdicts → AllByRecursion (HoldsAlways g) claims
-each_held rules g [] [] is holds = tt
-each_held rules g [] (v ∷ verdicts) is holds = absurd is
-each_held rules g (claim ∷ claims) [] is holds = absurd is
-each_held rules g (claim ∷ claims) (v ∷ verdicts) is holds = (held_always rules g claim v is.0 holds.0, each_held rules g claims verdicts is.1 holds.1)
-
-pub all_held : (rules : RuleSet) (g : TaskGraph) (claims : List Claim) (verdicts : List Verdict) → AllZip (IsVerdict rules g) claims verdicts → All HoldsFully verdicts → All (HoldsAlways g) claims
-all_held rules g claims verdicts is holds =
-    All-from_recursion (HoldsAlways g) claims (each_held rules g claims verdicts is (recursion_from_All HoldsFully verdicts holds))

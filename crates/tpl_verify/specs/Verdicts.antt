@@ -1,6 +1,5 @@
 -- What is answered of a claim: it holds, it fails, or neither is known.
-use Rattle.std.specs.Prelude.{◌≡◌, ℕ, ◌≤◌, ◌⊎◌, Bool, true, false, List, [], ◌∷◌, Option, None, Some, IfSome, IsTrue, is_some}
-use Rattle.std.specs.List.{AllZip}
+use Rattle.std.specs.Prelude.{◌≡◌, ℕ, ◌≤◌, ◌⊎◌, Bool, true, false, List, [], ◌∷◌, Option, None, Some, IfSome, IsTrue, is_some, map}
 use Rattle.tpl_model.specs.declared.ids.TaskId.{TaskId}
 use Rattle.tpl_model.specs.declared.finals.Finals.{Finals}
 use Rattle.tpl_model.specs.Finals.{has}
@@ -31,11 +30,10 @@ use Rattle.tpl_verify.specs.declared.verdict.Verdict.TheVariants as verdict
 abbrev pub HoldsAlways : TaskGraph → Claim → Type 0
 HoldsAlways g claim = (v : List Bool) (h : List Event) → Run g v h → Holds g claim v h
 
--- a tree with n splits above its deepest leaf is accepted for the claim by the rules
-pub record IsCertified (rules : RuleSet) (g : TaskGraph) (claim : Claim) (n : ℕ) : Type 0 where
-  pub tree : Tree
-  pub accepted : AcceptsBy rules g (claim ∷ []) (tree ∷ [])
-  pub splits : height tree ≡ n
+-- the certificate is accepted for the claim by the rules: one tree, with n splits above its deepest leaf
+pub record IsCertified (rules : RuleSet) (g : TaskGraph) (claim : Claim) (certificate : List Tree) (n : ℕ) : Type 0 where
+  pub accepted : AcceptsBy rules g (claim ∷ []) certificate
+  pub splits : map height certificate ≡ n ∷ []
 
 -- a claim of another property under the same given
 abbrev pub under : List Given → Property TaskId → Claim
@@ -156,23 +154,23 @@ IsEmpty g claim NeverKept = SpeaksOfComplete claim.body × IsNeverKept g claim.g
 abbrev pub EmptyClaimsHold : Type 0
 EmptyClaimsHold = (g : TaskGraph) (claim : Claim) (why : Empty) → Fits g claim → IsEmpty g claim why → HoldsAlways g claim
 
--- the claim holds always, by a certificate with this many splits; where it is said to say nothing, it does, and where
+-- the claim holds always, by this certificate with this many splits; where it is said to say nothing, it does, and where
 -- that is plain, it is said
-pub record IsHeld (rules : RuleSet) (g : TaskGraph) (claim : Claim) (splits : ℕ) (why : Option Empty) : Type 0 where
+pub record IsHeld (rules : RuleSet) (g : TaskGraph) (claim : Claim) (certificate : List Tree) (splits : ℕ) (why : Option Empty) : Type 0 where
   pub always : HoldsAlways g claim
-  pub certified : IsCertified rules g claim splits
+  pub certified : IsCertified rules g claim certificate splits
   pub empty : IfSome why (IsEmpty g claim)
   pub plain : IsPlainlyEmpty g claim → IsTrue (is_some why)
 
 -- a true verdict on a claim of which it isn't asked whether it says nothing
 abbrev pub IsJudged : RuleSet → TaskGraph → Claim → Verdict → Type 0
-IsJudged rules g claim (verdict.Holds splits empty) = HoldsAlways g claim × IsCertified rules g claim splits
+IsJudged rules g claim (verdict.Holds certificate splits empty) = HoldsAlways g claim × IsCertified rules g claim certificate splits
 IsJudged rules g claim (verdict.Fails run) = Refutes g claim run.inputs run.events.items
 IsJudged rules g claim (verdict.Unknown tried) = Unit {0}
 
 -- a true verdict on a claim
 abbrev pub IsVerdict : RuleSet → TaskGraph → Claim → Verdict → Type 0
-IsVerdict rules g claim (verdict.Holds splits empty) = IsHeld rules g claim splits empty
+IsVerdict rules g claim (verdict.Holds certificate splits empty) = IsHeld rules g claim certificate splits empty
 IsVerdict rules g claim (verdict.Fails run) = Refutes g claim run.inputs run.events.items
 IsVerdict rules g claim (verdict.Unknown tried) = Unit {0}
 
@@ -182,33 +180,18 @@ IsTried runs tried = (tried.runs ≤ runs) × ((tried.runs ≡ runs) ⊎ IsTrue 
 
 -- a claim that holds does so by a certificate with at most so many splits, and one of which nothing is known was tried by so many runs
 abbrev pub KeepsTo : (depth runs : ℕ) → Verdict → Type 0
-KeepsTo depth runs (verdict.Holds splits empty) = splits ≤ depth
+KeepsTo depth runs (verdict.Holds certificate splits empty) = splits ≤ depth
 KeepsTo depth runs (verdict.Fails run) = Unit {0}
 KeepsTo depth runs (verdict.Unknown tried) = IsTried runs tried
 
 -- where nothing is known of a claim, this is said to have run out in the search for a certificate
 abbrev pub SaysRanOut : RanOut → Verdict → Type 0
-SaysRanOut ran_out (verdict.Holds splits empty) = Unit {0}
+SaysRanOut ran_out (verdict.Holds certificate splits empty) = Unit {0}
 SaysRanOut ran_out (verdict.Fails run) = Unit {0}
 SaysRanOut ran_out (verdict.Unknown tried) = tried.ran_out ≡ ran_out
 
 -- the verdict is true of the claim, whatever it was found by
 abbrev pub IsSo : TaskGraph → Claim → Verdict → Type 0
-IsSo g claim (verdict.Holds splits empty) = HoldsAlways g claim × IfSome empty (IsEmpty g claim)
+IsSo g claim (verdict.Holds certificate splits empty) = HoldsAlways g claim × IfSome empty (IsEmpty g claim)
 IsSo g claim (verdict.Fails run) = Refutes g claim run.inputs run.events.items
 IsSo g claim (verdict.Unknown tried) = Unit {0}
-
--- a true verdict on a claim, by some rules
-abbrev pub IsSomeVerdict : TaskGraph → Claim → Verdict → Type 0
-IsSomeVerdict g claim verdict = (rules : RuleSet) × IsVerdict rules g claim verdict
-
--- true verdicts on the claims, all by the same rules
-abbrev pub AreVerdicts : TaskGraph → List Claim → List Verdict → Type 0
-AreVerdicts g claims verdicts = (rules : RuleSet) × AllZip (IsVerdict rules g) claims verdicts
-
--- the claim holds, and nothing says that it is empty
-abbrev pub HoldsFully : Verdict → Type 0
-HoldsFully (verdict.Holds splits None) = Unit {0}
-HoldsFully (verdict.Holds splits (Some empty)) = ⊥
-HoldsFully (verdict.Fails run) = ⊥
-HoldsFully (verdict.Unknown tried) = ⊥

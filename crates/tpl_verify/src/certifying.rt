@@ -1,7 +1,6 @@
 //! The search for a certificate of one claim.
 
 ghost use Rattle.std.specs.Prelude.{◌≡◌, ◌≤◌, ◌∷◌, [], length, IfOk, IsTrue};
-ghost use Rattle.tpl_commands.specs.Prelude.{trees_of};
 ghost use Rattle.tpl_graph.specs.Prelude.{Fits};
 ghost use Rattle.tpl_model.specs.Prelude.{Tree};
 ghost use Rattle.tpl_trees.specs.Prelude.{height};
@@ -11,11 +10,18 @@ use crate::limits::FEW_LEAVES;
 use crate::question::Question;
 use std::alloc::AllocError;
 use std::slice;
-use tpl_analyser::{Budget, Form, Gap, Unwatched};
-use tpl_commands::{Proof, find_proof};
+use tpl_analyser::{Budget, Form, Gap, Unwatched, analyse_by};
 use tpl_graph::Claim;
 use tpl_model::{MOST_SPLITS, Property};
-use tpl_trees::{Node, Tree};
+use tpl_trees::{Certificate, Node, Tree};
+
+/// A certificate of one claim.
+#[derive(Drop)]
+pub(crate) struct Certified {
+    pub(crate) certificate: Certificate,
+    /// How many splits its tree has above the deepest leaf.
+    pub(crate) splits: u8,
+}
 
 /// How many splits the tree has above its deepest leaf.
 fn splits_of(tree: &Tree) -> u8
@@ -35,26 +41,25 @@ fn splits_of(tree: &Tree) -> u8
 }
 
 /// How many splits the only tree of a certificate has above its deepest leaf.
-fn splits_in(proof: &Proof) -> u8
-    requires { length (trees_of proof.now) ≡ 1 }
-    ensures { (tree : Tree) → trees_of proof.now ≡ tree ∷ [] → result ≡ height tree }
+fn splits_in(certificate: &Certificate) -> u8
+    requires { length certificate.now ≡ 1 }
+    ensures { (tree : Tree) → certificate.now ≡ tree ∷ [] → result ≡ height tree }
 {
-    proof.limits_law();
-    splits_of(&proof.trees()[0])
+    certificate.limits_law();
+    splits_of(&certificate.trees()[0])
 }
 
-/// Searches a certificate of the claim by the rules within this budget, and says how many splits it has above its deepest
-/// leaf.
-/// `NotFound` doesn't say that the claim is false. `Memory` says that an allocation was refused.
+/// Searches a certificate of the claim by the rules within this budget. `NotFound` doesn't say that the claim is false.
+/// `Memory` says that an allocation was refused.
 pub(crate) fn certify(
     question: &Question<'_, '_>,
     budget: &mut Budget<Unwatched>,
-) -> Result<u8, Gap>
+) -> Result<Certified, Gap>
     requires { Fits question.now.graph.now.graph question.now.claim.now }
-    ensures certified { IfOk result (IsCertified question.now.rules
-        question.now.graph.now.graph question.now.claim.now) }
-    ensures shallow { IfOk result (λ splits. splits ≤ question.now.depth) }
-    ensures always { IfOk result (λ splits. HoldsAlways question.now.graph.now.graph
+    ensures certified { IfOk result (λ it. IsCertified question.now.rules
+        question.now.graph.now.graph question.now.claim.now it.certificate it.splits) }
+    ensures shallow { IfOk result (λ it. it.splits ≤ question.now.depth) }
+    ensures always { IfOk result (λ it. HoldsAlways question.now.graph.now.graph
         question.now.claim.now) }
 {
     let (alloc, graph) = (question.alloc, question.graph);
@@ -62,8 +67,13 @@ pub(crate) fn certify(
     graph.valid_law();
     tpl_laws::sound_by_rules();
     let alone = slice::from_ref(question.claim);
-    let proof = find_proof(alloc, graph, alone, rules, depth, Form::Slim, budget)?;
-    Ok(splits_in(&proof))
+    let depth = depth.splits();
+    let certificate = analyse_by(alloc, graph, alone, rules, depth, Form::Slim, budget)?;
+    let splits = splits_in(&certificate);
+    Ok(Certified {
+        certificate,
+        splits,
+    })
 }
 
 /// Nothing is given, and in a run that was seen the property isn't true: there is no certificate of it.

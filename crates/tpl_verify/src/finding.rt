@@ -1,6 +1,6 @@
 //! The search for a run in which a claim of a document fails.
 
-ghost use Rattle.std.specs.Prelude.{IfOk, IfSome, All};
+ghost use Rattle.std.specs.Prelude.{◌≡◌, IfOk, IfSome, All};
 ghost use Rattle.tpl_graph.specs.Prelude.{Fits};
 ghost use Rattle.tpl_reader.specs.Prelude.{doc_of};
 ghost use Rattle.tpl_verify.specs.Prelude.{IsFound};
@@ -20,6 +20,17 @@ pub(crate) struct Found {
     pub(crate) number: usize,
     /// The run.
     pub(crate) run: Counterexample,
+}
+
+/// The run in which the claim fails, where that is the verdict.
+fn failing(verdict: Verdict) -> Option<Counterexample>
+    ensures { IfSome result (λ run. verdict ≡ Verdict.Fails run) }
+{
+    match verdict {
+        Verdict::Fails(run) => Some(run),
+        Verdict::Holds { .. } => None,
+        Verdict::Unknown(_) => None,
+    }
 }
 
 /// The first run that is found, claim by claim. Each claim has random numbers and limits of its own. Who attends is told
@@ -44,7 +55,7 @@ pub(crate) fn find<L: Listen, A: Attend>(
             if search.explain {
                 tell_end(alloc, number, &verdict, listener)?;
             }
-            if let Verdict::Fails(run) = verdict {
+            if let Some(run) = failing(verdict) {
                 return Ok(Some(Found { number, run }));
             }
         }

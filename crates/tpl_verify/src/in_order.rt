@@ -42,7 +42,7 @@ fn tell_verdicts<
     attend: &A,
     telling: &T,
     to: &mut Counting<W>,
-) -> Result<Vec<Verdict>, Stop>
+) -> Result<Vec<T::Kept>, Stop>
     requires claims { All (Fits graph.now.graph) claims.now }
     requires jobs { 0 < jobs }
     requires unsplit { IsAtHand graph.now.graph unsplit.now }
@@ -51,8 +51,8 @@ fn tell_verdicts<
         → KeepsTo limits.now.depth limits.now.runs verdict → T.fits telling.now i verdict }
     requires begins { T.tells telling.now [] [] }
     ensures { MatchResult result
-        (λ told. TellsAll (T.tells telling.now) (length claims.now) W.contents to.old to.new
-        told.items)
+        (λ kept. TellsAll (T.tells telling.now) T.keep (length claims.now) W.contents
+        to.old to.new kept.items)
         (IsStopped (T.tells telling.now) W.contents to.old to.new) }
 {
     let answer = |at: usize| -> Option<Verdict>
@@ -71,8 +71,8 @@ fn tell_verdicts<
 
 /// Tells the verdicts on the claims, as [`crate::verify_claim`] gives them, in their order: each as soon as it is found and those
 /// before it are told, by at most this many threads that search. Each verdict comes from its graph, claim, rules, number and
-/// limits alone. Who attends is told of each as soon as it is found. The verdicts that were told; or why that has ended before
-/// the last claim.
+/// limits alone. Who attends is told of each as soon as it is found. What is kept of the verdicts, each of which is let go once it
+/// is told; or why that has ended before the last claim.
 #[tactic(auto, using(tpl_series::proofs::ToldLemmas::stopped_at_once))]
 pub fn verify_in_order<
     R: Threads + Wait + Sync,
@@ -90,7 +90,7 @@ pub fn verify_in_order<
     attend: &A,
     telling: &T,
     to: &mut Counting<W>,
-) -> Result<Vec<Verdict>, Stop>
+) -> Result<Vec<T::Kept>, Stop>
     requires claims { All (Fits graph.now.graph) claims.now }
     requires jobs { 0 < jobs }
     requires fits { (i : ℕ) (verdict : Verdict) → i < length claims.now
@@ -98,8 +98,8 @@ pub fn verify_in_order<
         → KeepsTo limits.now.depth limits.now.runs verdict → T.fits telling.now i verdict }
     requires begins { T.tells telling.now [] [] }
     ensures { MatchResult result
-        (λ told. TellsAll (T.tells telling.now) (length claims.now) W.contents to.old to.new
-        told.items)
+        (λ kept. TellsAll (T.tells telling.now) T.keep (length claims.now) W.contents
+        to.old to.new kept.items)
         (IsStopped (T.tells telling.now) W.contents to.old to.new) }
 {
     let Ok(below) = Box::new(alloc, Below::of_graph(graph)) else {

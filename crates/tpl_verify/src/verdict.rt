@@ -5,13 +5,16 @@ ghost use Rattle.std.specs.Prelude.{◌≡◌, ◌↔◌, IsTrue, codes, if◌th
 use tpl_analyser::RanOut;
 use tpl_model::TaskId;
 use tpl_refute::{Counterexample, Sought};
+use tpl_trees::Certificate;
 
 /// What is answered of a claim.
 #[derive(Drop)]
 pub enum Verdict {
     /// It holds in each run of the graph, for all inputs.
     Holds {
-        /// How many splits its certificate has above the deepest leaf.
+        /// The certificate that was found, one tree.
+        certificate: Certificate,
+        /// How many splits that tree has above its deepest leaf.
         splits: u8,
         /// Why it says nothing, where that is certified too.
         empty: Option<Empty>,

@@ -1,13 +1,14 @@
 //! The answers to claims, one after another.
 
-ghost use Rattle.std.specs.Prelude.{IfOk, IsTrue, All};
+ghost use Rattle.std.specs.Prelude.{◌≡◌, ◌∷◌, [], IfOk, IsTrue, All};
 ghost use Rattle.std.specs.List.{AllZip};
 ghost use Rattle.tpl_checker.specs.Prelude.{AreBelow};
 ghost use Rattle.tpl_graph.specs.Prelude.{Fits};
+ghost use Rattle.tpl_model.specs.Prelude.{LeastLeaf};
 ghost use Rattle.tpl_token_leaf.specs.Prelude.{AreLinks};
 ghost use Rattle.tpl_verify.specs.Prelude.{HoldsAlways, IsAtHand, IsCertified, IsJudged, IsVerdict, KeepsTo, SaysRanOut};
 
-use crate::certifying::certify;
+use crate::certifying::{Certified, certify};
 use crate::empty::why_empty;
 use crate::limits::Limits;
 use crate::question::Question;
@@ -20,6 +21,7 @@ use tpl_model::RuleSet;
 use tpl_paths::TokenSet;
 use tpl_refute::{Effort, Seen, refute};
 use tpl_token_check::{Unsplit, links};
+use tpl_trees::{Certificate, Node, Tree};
 
 /// The verdict on a claim for which no certificate was found, after these random runs.
 fn tried(
@@ -54,7 +56,13 @@ fn certified_or_tried(
 {
     let mut budget = Budget::new(Unwatched, limits.leaves);
     match certify(question, &mut budget) {
-        Ok(splits) => Ok(Verdict::Holds {
+        Ok(
+            Certified {
+                certificate,
+                splits,
+            },
+        ) => Ok(Verdict::Holds {
+            certificate,
             splits,
             empty: None,
         }),
@@ -111,7 +119,13 @@ pub fn judge_claim(
     };
     let mut glance = Budget::new(Unwatched, limits.glance());
     match certify(&question, &mut glance) {
-        Ok(splits) => Ok(Verdict::Holds {
+        Ok(
+            Certified {
+                certificate,
+                splits,
+            },
+        ) => Ok(Verdict::Holds {
+            certificate,
             splits,
             empty: None,
         }),
@@ -146,7 +160,7 @@ fn is_accepted(
     requires fits { Fits graph.now.graph claim.now }
     requires unsplit { IsAtHand graph.now.graph unsplit.now }
     ensures certified { IfOk result (λ accepted. IsTrue accepted
-        → IsCertified rules graph.now.graph claim.now 0) }
+        → IsCertified rules graph.now.graph claim.now (LeastLeaf ∷ []) 0) }
     ensures always { IfOk result (λ accepted. IsTrue accepted
         → HoldsAlways graph.now.graph claim.now) }
 {
@@ -162,6 +176,15 @@ fn is_accepted(
             Ok(accepted)
         }
     }
+}
+
+/// The certificate whose tree has no split and leaves its rows out.
+fn least(alloc: Global) -> Result<Certificate, AllocError>
+    ensures { IfOk result (λ certificate. certificate ≡ LeastLeaf ∷ []) }
+{
+    let mut trees = Vec::new(alloc);
+    trees.push(Tree::new(Node::Least))?;
+    Ok(Certificate::new(trees))
 }
 
 /// The verdict on the claim of this number, as [`judge_claim`] gives it, and sooner where the tree at hand is accepted.
@@ -180,7 +203,9 @@ fn judge_at_hand(
     ensures within { IfOk result (KeepsTo limits.now.depth limits.now.runs) }
 {
     if is_accepted(alloc, graph, claim, rules, unsplit)? {
+        let certificate = least(alloc)?;
         return Ok(Verdict::Holds {
+            certificate,
             splits: 0,
             empty: None,
         });
@@ -207,9 +232,17 @@ pub fn verify_claim(
     ensures within { IfOk result (KeepsTo limits.now.depth limits.now.runs) }
 {
     match judge_at_hand(alloc, graph, claim, rules, number, limits, unsplit)? {
-        Verdict::Holds { splits, .. } => {
+        Verdict::Holds {
+            certificate,
+            splits,
+            ..
+        } => {
             let empty = why_empty(alloc, graph, claim, rules, Some(seen))?;
-            Ok(Verdict::Holds { splits, empty })
+            Ok(Verdict::Holds {
+                certificate,
+                splits,
+                empty,
+            })
         }
         Verdict::Fails(run) => Ok(Verdict::Fails(run)),
         Verdict::Unknown(tried) => Ok(Verdict::Unknown(tried)),

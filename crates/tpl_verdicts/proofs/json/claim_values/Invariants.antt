@@ -7,4 +7,4 @@ use Rattle.tpl_verdicts.proofs.json.claim_values.Given as goal
 
 abbrev pub invariant-loop-place : goal.invariant-loop-place
 invariant-loop-place l =
-    AreNumbered (IsNamedData l.all.graph.now.names) 1 (take l.place (all_told l.all)) (map view l.values.items)
+    AreNumbered (IsNamedData l.all.searched.rules l.all.graph.now.names) 1 (take l.place (all_told l.all)) (map view l.values.items)

@@ -6,5 +6,5 @@ use Rattle.tpl_verdicts.proofs.lines.lines_of.Goals as goal
 pub failing_lines-requires : goal.failing_lines-requires
 failing_lines-requires c =
     let g = c.args.judgement.now.graph.now.graph in
-    let refutes = subst (λ (v : Verdict). IsVerdict c.requires.verdict.0 g c.args.judgement.now.claim.now v) c.in-Fails.is c.requires.verdict.1 in
+    let refutes = subst (λ (v : Verdict). IsVerdict c.args.judgement.now.searched.rules g c.args.judgement.now.claim.now v) c.in-Fails.is c.requires.verdict in
     c.spells_run.ensures g _ _ refutes.run refutes.seats

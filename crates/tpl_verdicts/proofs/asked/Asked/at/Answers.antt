@@ -10,7 +10,7 @@ returns-clause-right c =
     let claim = c.index-claims-place.result in
     record {
       fits = all_at (Fits asked.graph.now.graph) asked.claims.now c.args.place claim c.requires.within c.index-claims-place.is c.requires.fits;
-      verdict = (asked.searched.rules, c.requires.true_of claim (slice_get_read asked.claims.now _ c.args.place claim refl c.requires.within c.index-claims-place.is));
+      verdict = c.requires.true_of claim (slice_get_read asked.claims.now _ c.args.place claim refl c.requires.within c.index-claims-place.is);
     }
 
 pub returns-clause-claim : goal.returns-clause-claim
