@@ -180,4 +180,6 @@ class Machine(every_run.Machine):
     def branch(self, statement: tuple, winner: int) -> tuple:
         """The list for this winner, which is empty if none is named."""
         _, _, won, first, second = statement
-        return first if won is not None and self.graph.places[won] == winner else second
+        if won is None:
+            return ()
+        return first if self.graph.places[won] == winner else second

@@ -26,7 +26,7 @@ def statement_of(said) -> tuple:
         if word in said:
             return (word, said[word], body_of(said["then"]), body_of(said.get("else", [])))
     if "await_any" in said:
-        branches = (body_of(said.get(part, [])) for part in ("then", "else"))
+        branches = (body_of(said.get(part, [])) if "won" in said else None for part in ("then", "else"))
         return ("await_any", tuple(said["await_any"]), said.get("won"), *branches)
     if "try" in said:
         return ("try", body_of(said["try"]), *(body_of(said[part]) if part in said else None for part in HANDLERS))
@@ -41,7 +41,7 @@ def body_of(statements) -> tuple:
 
 
 def lists_of(statement: tuple) -> tuple:
-    """The lists that a statement has, in the order of the text; of a try, those that it has."""
+    """The lists that a statement has, in the order of the text."""
     first = {"if": 2, "when": 2, "await_any": 3, "try": 1}.get(statement[0])
     return () if first is None else tuple(part for part in statement[first:] if part is not None)
 

@@ -3,10 +3,14 @@
 The program has no part in this. The methods of methods/ stand there in C# too; test_methods.py runs that.
 """
 import json
+import re
 
 import pytest
 
-from harness import HERE
+import reader_mistakes
+from bodies import Started
+from harness import HERE, Case, all_cases, cases_of
+from refusals import Reading
 from waiting import outcomes
 
 METHODS = HERE / "methods"
@@ -74,3 +78,49 @@ def test_outcomes_of_a_call_that_nobody_awaits():
         seen("call Load", failed, end, unread=("Load",)),
         seen("call Load", end, failed, unread=("Load",)),
     }
+
+
+# ---- what is read
+
+
+READ = cases_of("version4/reading")
+FINDS = [(case, mistake) for case in READ for mistake in case.finds]
+
+
+def read_with(case: Case, started: type[Started] = Started) -> str:
+    """What is said of a document without a certificate, by rules with these of what is surely started."""
+    document = json.loads(case.stdin)
+    fault = Reading(document, started).fault()
+    return f"unreadable: {fault}\n" if fault else "refused: shape claim 1\n" if document.get("claims") else "accepted\n"
+
+
+@pytest.mark.parametrize("case", READ, ids=str)
+def test_what_is_read(case: Case):
+    assert read_with(case) == case.stdout
+
+
+@pytest.mark.parametrize("case, mistake", FINDS, ids=str)
+def test_a_mistake_of_a_reader_is_found(case: Case, mistake: str):
+    assert read_with(case, reader_mistakes.MISTAKES[mistake]) != case.stdout
+
+
+def test_each_mistake_of_a_reader_is_found_by_a_row():
+    assert {mistake for _, mistake in FINDS} == set(reader_mistakes.MISTAKES)
+
+
+def cases_of_version_3() -> list[Case]:
+    """Those in which a document of version 3 is asked, and its certificate, if it has one, can be read."""
+    is_new = re.compile(rb'\s*\{\s*"version": *3,').match
+    asked = [case for case in all_cases() if is_new(case.stdin) and "--each" not in case.words and case.stdout]
+    return [case for case in asked if not re.match("unreadable: (not JSON|too long|certificate)", case.stdout or "")]
+
+
+@pytest.mark.parametrize("version", [3, 4])
+def test_what_was_worked_out_of_version_3(version: int):
+    """What the cases say of documents of version 3 is said by this model too, and of the same documents as version 4."""
+    cases = cases_of_version_3()
+    assert len(cases) > 400
+    for case in cases:
+        told = re.match("unreadable: ((?:shape|graph|claim|start) (?!Missing).+)\n", case.stdout or "")
+        fault = Reading({**json.loads(case.stdin), "version": version}).fault()
+        assert fault == (told and told[1]), str(case)
