@@ -48,10 +48,12 @@ class Machine(every_run.Machine):
             if head[0] == "try":
                 left = (*head[1], Trying(*head[2:]), *more)
             elif isinstance(head, (Trying, Caught)):
-                left = self.into_finally(head, None, more)
-            elif isinstance(head, Ending) and head.way:
-                return self.outwards(more, head.way)
+                last = self.last_of(head, None)
+                left = more if last is None else (*last, Ending(None), *more)
             elif isinstance(head, Ending):
+                way = self.behind_finally(head)
+                if way:
+                    return self.outwards(more, way)
                 left = more
             else:
                 break
@@ -63,14 +65,29 @@ class Machine(every_run.Machine):
             more = left[place + 1 :]
             handler = self.handler(mark, way) if isinstance(mark, Trying) else None
             if handler is not None:
-                return self.unfolded((*handler, Caught(way, mark.last), *more))
-            if isinstance(mark, (Trying, Caught)) and mark.last is not None:
-                return self.unfolded(self.into_finally(mark, way, more))
+                return self.unfolded((*handler, *self.behind_handler(mark, way), *more))
+            last = self.last_of(mark, way) if isinstance(mark, (Trying, Caught)) else None
+            if last is not None:
+                return self.unfolded((*last, Ending(way), *more))
+            if isinstance(mark, Ending):
+                way = self.replacing(mark.way, way)
         return (), way
 
-    def into_finally(self, mark: Trying | Caught, way: str | None, more: tuple) -> tuple:
-        """The finally of a mark, if it has one, and what follows it."""
-        return more if mark.last is None else (*mark.last, Ending(way), *more)
+    def last_of(self, mark: Trying | Caught, way: str | None) -> tuple | None:
+        """The finally that this goes through, or a normal end; None if there is none."""
+        return mark.last
+
+    def behind_finally(self, mark: Ending) -> str | None:
+        """What goes on where a finally ends."""
+        return mark.way
+
+    def replacing(self, before: str | None, way: str) -> str:
+        """What goes on where this comes out of a finally, through which something was under way before."""
+        return way
+
+    def behind_handler(self, mark: Trying, way: str) -> tuple:
+        """The marks behind a handler that caught this."""
+        return (Caught(way, mark.last),)
 
     def handler(self, mark: Trying, way: str) -> tuple | None:
         """The list of a try that catches this, if there is one."""
