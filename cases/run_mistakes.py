@@ -317,8 +317,8 @@ class ThrownInFinallyIsLost(Machine):
         return before or way
 
 
-class ThrownInFinallyIsCaught(Machine):
-    """What a finally throws goes to the handlers of its own try."""
+class ThrownInFinallyStops(Machine):
+    """What a finally throws goes no further, and the body goes on behind the try."""
 
     def outwards(self, left, way):
         mark = next((mark for mark in left if isinstance(mark, (Trying, Caught, Ending))), None)
@@ -501,7 +501,9 @@ class Attaching(Machine):
 
     def __init__(self, graph, inputs):
         super().__init__(graph, inputs)
-        attached = (filter(lambda child: self.is_attached(place, child), graph.started_by(place)) for place in range(len(graph.tasks)))
+        attached = (
+            filter(lambda child: self.is_attached(place, child), graph.started_by(place)) for place in range(len(graph.tasks))
+        )
         graph.attached = tuple(map(tuple, attached))
 
 
@@ -607,4 +609,6 @@ def all_below(kind: type) -> list[type]:
     return [found for below in kind.__subclasses__() for found in ([below] if not below.__subclasses__() else all_below(below))]
 
 
-MISTAKES: dict[str, type] = {kind.__name__: kind for kind in [*all_below(Machine), *all_below(Played)] if kind.__module__ == __name__}
+MISTAKES: dict[str, type] = {
+    kind.__name__: kind for kind in [*all_below(Machine), *all_below(Played)] if kind.__module__ == __name__
+}

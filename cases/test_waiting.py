@@ -1,6 +1,9 @@
-"""Documents of version 4, whose bodies wait: their runs, by a model that is written from the rules alone (machine.py).
+"""Documents of version 4, whose bodies wait: what is read of them (refusals.py) and what their runs are (machine.py, audited.py),
+by models that are written from the rules alone.
 
-The program has no part in this. The methods of methods/ stand there in C# too; test_methods.py runs that.
+The program has no part in this. The rows of version4/ were worked out by hand; each mistake that is planted in a model is found
+by one of them. What the cases say of documents of versions 1 to 3 is said by the models too. The methods of methods/ stand there
+in C# too; test_methods.py runs that.
 """
 import json
 import re
@@ -8,8 +11,11 @@ import re
 import pytest
 
 import reader_mistakes
+import run_mistakes
+from audited import Played, audit
 from bodies import Started
 from harness import HERE, Case, all_cases, cases_of
+from machine import Machine
 from refusals import Reading
 from waiting import outcomes
 
@@ -80,11 +86,18 @@ def test_outcomes_of_a_call_that_nobody_awaits():
     }
 
 
+def finds(cases: tuple[Case, ...]) -> list:
+    """Each row with each of the mistakes that it finds."""
+    return [pytest.param(case, mistake, id=f"{mistake}-{case}") for case in cases for mistake in case.finds]
+
+
+def found(cases: tuple[Case, ...]) -> set[str]:
+    return {mistake for case in cases for mistake in case.finds}
+
+
 # ---- what is read
 
-
 READ = cases_of("version4/reading")
-FINDS = [(case, mistake) for case in READ for mistake in case.finds]
 
 
 def read_with(case: Case, started: type[Started] = Started) -> str:
@@ -99,13 +112,13 @@ def test_what_is_read(case: Case):
     assert read_with(case) == case.stdout
 
 
-@pytest.mark.parametrize("case, mistake", FINDS, ids=str)
+@pytest.mark.parametrize("case, mistake", finds(READ))
 def test_a_mistake_of_a_reader_is_found(case: Case, mistake: str):
     assert read_with(case, reader_mistakes.MISTAKES[mistake]) != case.stdout
 
 
 def test_each_mistake_of_a_reader_is_found_by_a_row():
-    assert {mistake for _, mistake in FINDS} == set(reader_mistakes.MISTAKES)
+    assert found(READ) == set(reader_mistakes.MISTAKES)
 
 
 def cases_of_version_3() -> list[Case]:
@@ -124,3 +137,45 @@ def test_what_was_worked_out_of_version_3(version: int):
         told = re.match("unreadable: ((?:shape|graph|claim|start) (?!Missing).+)\n", case.stdout or "")
         fault = Reading({**json.loads(case.stdin), "version": version}).fault()
         assert fault == (told and told[1]), str(case)
+
+
+# ---- which journals are runs
+
+RUN = cases_of("version4/runs")
+
+
+def audit_with(case: Case, kind: type) -> str:
+    """What is written of a journal by a machine, or by workers, of this kind."""
+    kinds = {word: kind for word, base in (("machine", Machine), ("played", Played)) if issubclass(kind, base)}
+    return audit(json.loads(case.stdin), **kinds)
+
+
+@pytest.mark.parametrize("case", RUN, ids=str)
+def test_what_is_a_run(case: Case):
+    assert audit_with(case, Machine) == case.stdout
+
+
+@pytest.mark.parametrize("case, mistake", finds(RUN))
+def test_a_mistake_about_runs_is_found(case: Case, mistake: str):
+    assert audit_with(case, run_mistakes.MISTAKES[mistake]) != case.stdout
+
+
+def test_each_mistake_about_runs_is_found_by_a_row():
+    assert found(RUN) == set(run_mistakes.MISTAKES)
+
+
+# how many tasks a document has at most that is audited here
+FEW = 20
+
+
+def test_journals_of_older_versions():
+    """What the cases say of journals of versions 1 to 3 is said by this model of the same documents as version 4, but for line
+    breaks that versions 1 and 2 don't take."""
+    audited = 0
+    for case in all_cases():
+        is_line = re.match(r"run |not allowed|unreadable: journal", case.stdout or "")
+        document = json.loads(case.stdin) if case.words == ("audit",) and is_line else {"tasks": []}
+        if 0 < len(document["tasks"]) <= FEW and not (document["version"] < 3 and "\r" in document["journal"]):
+            assert audit({**document, "version": 4}) == case.stdout, str(case)
+            audited += 1
+    assert audited > 100
