@@ -146,8 +146,8 @@ RUN = cases_of("version4/runs")
 
 def audit_with(case: Case, kind: type) -> str:
     """What is written of a journal by a machine, or by workers, of this kind."""
-    kinds = {word: kind for word, base in (("machine", Machine), ("played", Played)) if issubclass(kind, base)}
-    return audit(json.loads(case.stdin), **kinds)
+    document = json.loads(case.stdin)
+    return audit(document, played=kind) if issubclass(kind, Played) else audit(document, kind)
 
 
 @pytest.mark.parametrize("case", RUN, ids=str)
