@@ -3,6 +3,8 @@ import random
 
 TOKEN, INPUT = "stop", "big"
 CALLS, WORKS, DEPTH = 3, 2, 3
+# behind these nothing is drawn, since the compiler doesn't take each text that no run comes to
+LEAVING = ("return", "rethrow", {"throw": "wrong"})
 
 
 class Method:
@@ -20,18 +22,26 @@ class Method:
     # ---- the document
 
     def block(self, depth: int, in_catch: bool, in_finally: bool) -> list:
-        count = self.chance.choice((1, 1, 2, 2, 3) if depth == DEPTH else (0, 1, 1, 2))
-        return [each for _ in range(count) for each in self.statements(depth, in_catch, in_finally)]
+        found: list = []
+        for _ in range(self.chance.choice((2, 2, 3, 4) if depth == DEPTH else (0, 1, 1, 2))):
+            found += self.statements(depth, in_catch, in_finally)
+            if found[-1] in LEAVING:
+                break
+        return found
 
     def statements(self, depth: int, in_catch: bool, in_finally: bool) -> list:
         """One statement, or a call that is awaited at once."""
         chance, drawn = self.chance, self.chance.random()
+        if drawn < 0.08 and len(self.calls) + 1 < CALLS:
+            names = [self.call(), self.call()]
+            return [{"start": names[0]}, {"start": names[1]}, self.waiting(names, depth, in_catch, in_finally)]
         if drawn < 0.3 and len(self.calls) < CALLS:
             name = self.call()
             return [{"start": name}, *([{"await": name}] if chance.random() < 0.7 else [])]
         if drawn < 0.45 and self.calls:
             names = [call["name"] for call in self.calls]
-            return [self.waiting(chance.sample(names, min(len(names), chance.choice((1, 1, 2)))), depth, in_catch, in_finally)]
+            some = chance.sample(names, min(len(names), chance.choice((1, 1, 2))))
+            return [self.waiting(some, depth, in_catch, in_finally)]
         if drawn < 0.75 and depth:
             return [self.protected(depth - 1, in_catch, in_finally)]
         if drawn < 0.8 and depth:

@@ -53,9 +53,9 @@ class Outcomes:
                 yield f"end {task.name} {later.final}"
 
 
-def outcomes(document: dict) -> set[Outcome]:
-    """What can be seen of the runs of a document, whatever its inputs are."""
+def outcomes(document: dict, kind: type[machine.Machine] = machine.Machine) -> set[Outcome]:
+    """What can be seen of the runs of a document, whatever its inputs are, by a machine of this kind."""
     graph = Graph(document)
     values = itertools.product((False, True), repeat=len(graph.inputs))
-    machines = (machine.Machine(graph, dict(zip(graph.inputs, each))) for each in values)
+    machines = (kind(graph, dict(zip(graph.inputs, each))) for each in values)
     return set().union(*(Outcomes(each).all() for each in machines))
