@@ -1,11 +1,9 @@
 """Mistakes that a machine of version 4 could make, or the one that tells which worker may act: each is a model of the rules with
 this one thing wrong."""
-import audited
-import machine
 from audited import Played
-from every_run import ACKNOWLEDGED, LET_OUT, RETURNED, THREW, THROWN, Act
+from every_run import ACKNOWLEDGED, CREATED, LET_OUT, RETURNED, THREW, THROWN, Act
 from machine import CANCELLATIONS, Caught, Ending, Machine, Trying
-from small import CANCELED, FAULTED, RAN
+from small import CANCELED, FAULTED, RAN, statements_of
 
 # ---- what awaits and waits throw, and read
 
@@ -530,7 +528,7 @@ class SucceedsByTheEnd(Machine):
     def facts_of(self, state):
         facts = super().facts_of(state)
         loud = (self.graph.tasks[place].body for place in facts.threw)
-        sites = {said[1] for body in loud for said in machine.statements_of(body) if said[0] == "work"}
+        sites = {said[1] for body in loud for said in statements_of(body) if said[0] == "work"}
         return facts._replace(failed=facts.failed & sites)
 
 
@@ -581,7 +579,7 @@ class NeverUntilStarted(Given):
     """That a task never begins is broken by its start."""
 
     def never(self, facts, place):
-        return self.state.tasks[place].phase == audited.CREATED
+        return self.state.tasks[place].phase == CREATED
 
 
 class NeverIsKept(Given):

@@ -33,10 +33,13 @@ HEAD_LINES = 5
 # the compiler comes to no end with some methods, and names them: so many may be left out of each hundred
 LEFT_OUT = 5
 # mistakes in the machine that methods drawn by chance show, since C# does what the machine doesn't
-SHOWN = """AwaitOfCanceledThrows FaultedIsCancellation LetOutIsException AwaitReadsNothing OtherTokenFaults ExceptionPastAFinally
-CancellationPastAFinally EndPastAFinally HandlerPastAFinally FinallySwallows ThrownInFinallyIsLost CatchTakesNoCancellation
-CatchBeforeCatchCanceled CatchCanceledTakesExceptions NothingIsCaught ThrownInHandlerIsLost RethrowIsException
-CanceledJobGoesOn CanceledJobReturns""".split()
+SHOWN = """AwaitOfCanceledThrows AwaitCancelsIfAllAre CanceledBeforeFaulted LetOutIsException FaultedIsCancellation
+LetOutLostAmongSeveral LetOutByTheLast AwaitReadsNothing AwaitReadsTheFirst AnyWaitsForAll AnyThrowsOn OthersTakeThen
+ThenIsAlwaysTaken OtherTokenFaults OtherTokenCancels OtherTokenIsException ReturnPastAFinally ExceptionPastAFinally
+CancellationPastAFinally EndPastAFinally HandlerPastAFinally FinallySwallows ThrownInFinallyIsLost ThrownInFinallyStops
+CatchTakesNoCancellation CatchBeforeCatchCanceled CatchCanceledTakesExceptions ReturnIsCaught NothingIsCaught
+ThrownInHandlerIsLost HandlersFollowOneAnother FinallyBeforeHandler CanceledJobGoesOn CanceledJobIsAcknowledged
+CanceledJobIsException CanceledJobReturns CanceledOnlyWhereItMayFail CanceledOnlyWhereRequested""".split()
 
 
 class Seen:
@@ -149,5 +152,8 @@ def test_drawn_methods_are_their_documents(drawn):
 
 @pytest.mark.parametrize("mistake", SHOWN)
 def test_a_mistake_shows_in_drawn_methods(drawn, mistake: str):
+    """By the methods that are drawn if nothing else is said."""
+    if "M0" not in drawn.methods:
+        pytest.skip("other methods are drawn")
     seen, kind = drawn.seen, run_mistakes.MISTAKES[mistake]
     assert any(not seen.outcomes[name] <= outcomes(method.document, kind) for name, method in drawn.read.items())
