@@ -349,10 +349,10 @@ def left(task: str, ended: list[dict]) -> set[str]:
 class Truth:
     """Which claims hold in every run of a graph."""
 
-    def __init__(self, document: dict, most: int = 30_000):
+    def __init__(self, document: dict, most: int = 30_000, kind: type[Runs] = Runs):
         self.graph = Graph(document)
         values = itertools.product((False, True), repeat=len(self.graph.inputs))
-        self.all = [Runs(self.graph, dict(zip(self.graph.inputs, each)), most) for each in values]
+        self.all = [kind(self.graph, dict(zip(self.graph.inputs, each)), most) for each in values]
 
     def holds(self, claim: dict) -> bool:
         """The claim holds in every run that agrees with what it takes as given."""

@@ -6,18 +6,23 @@ by one of them. What the cases say of documents of versions 1 to 3 is said by th
 in C# too; test_methods.py runs that.
 """
 import json
+import random
 import re
 
 import pytest
 
+import every_run
 import reader_mistakes
 import run_mistakes
 from audited import Played, audit
 from bodies import Started
+from drawn_waiting import Waiting
+from every_run import Truth, TooManyStates
 from harness import HERE, Case, all_cases, cases_of
 from machine import Machine
 from refusals import Reading
-from waiting import outcomes
+from sound import KINDS
+from waiting import Runs, outcomes
 
 METHODS = HERE / "methods"
 # how many outcomes the runs of each document have
@@ -179,3 +184,106 @@ def test_journals_of_older_versions():
             assert audit({**document, "version": 4}) == case.stdout, str(case)
             audited += 1
     assert audited > 100
+
+
+# ---- all runs of small graphs
+
+# how many graphs are drawn, and of how many states they may have
+DRAWN, STATES = 50, 4000
+
+
+@pytest.mark.drawn(DRAWN)
+def test_no_run_gets_stuck(number: int):
+    try:
+        truth = Truth(Waiting(number).read(), STATES, Runs)
+    except TooManyStates:
+        pytest.skip("too many states")
+    assert [runs.stuck for runs in truth.all] == [[]] * len(truth.all)
+
+
+def root(name: str, *body, **more) -> dict:
+    return {"name": name, "kind": "root", "async": True, "body": [*body], **more}
+
+
+def child(name: str, *body) -> dict:
+    return {**root(name, *body), "kind": "child"}
+
+
+# bodies that wait for what may not have been started, which the reader refuses
+STUCK = {
+    "itself": [root("A", {"await": "A"})],
+    "a child that is never started": [root("A", "return", {"start": "C"}), child("C"), root("B", {"await": "C"})],
+    "a child that may not be started": [root("A", {"if": "i", "then": [{"start": "C"}]}, {"await": "C"}), child("C")],
+    "each other": [root("A", {"await": "B"}), root("B", {"await": "A"})],
+    "its parent, which waits for it": [root("A", {"start": "C"}, {"await": "C"}), child("C", {"wait": "A"})],
+    "a child that the handler starts": [root("A", {"try": [], "catch": [{"start": "C"}]}, {"await_any": ["C"]}), child("C")],
+}
+
+
+@pytest.mark.parametrize("what", STUCK)
+def test_what_is_refused_gets_stuck(what: str):
+    document = {"version": 4, "inputs": ["i"], "tasks": STUCK[what]}
+    fault = Reading(document).fault() or ""
+    assert fault.startswith("graph NotStarted")
+    assert any(runs.stuck for runs in Truth(document, STATES, Runs).all)
+
+
+# how many graphs of version 3 are drawn
+OLDER = 15
+
+
+@pytest.mark.drawn(OLDER)
+def test_runs_of_version_3(number: int):
+    """The runs of a document of version 3 are the same in version 4."""
+    document = KINDS[number % len(KINDS)](random.Random(number), 2, 5).document()
+    try:
+        older, newer = (Truth(document, STATES, kind) for kind in (every_run.Runs, Runs))
+    except TooManyStates:
+        pytest.skip("too many states")
+    for one, other in zip(older.all, newer.all):
+        assert (one.facts, one.begins) == (other.facts, other.begins)
+
+
+def claims(name: str) -> list:
+    """Claims about a method, worked out by hand: those that hold in all of its runs, and those that don't."""
+    found: list = []
+    for is_true, said in ((True, TRUE[name]), (False, FALSE[name])):
+        found += [pytest.param(name, claim, is_true, id=f"{name}-{json.dumps(claim)}") for claim in said]
+    return found
+
+
+BEGUN, LATER, LATE = {"given": [{"begins": "Load"}]}, {"given": [{"begins": "Save"}]}, ["RanToCompletion", "Canceled"]
+TRUE: dict[str, list[dict]] = {
+    "Using": [
+        {**BEGUN, "runs": "Dispose"},
+        {"given": ["no_failure"], "runs": "Send"},
+        {"given": [{"ended": "Load", "in": ["Faulted"]}], "never": "Send"},
+        {"after": ["Dispose", "Send"]},
+        *({"observed": name} for name in ("Open", "Load", "Dispose", "Send")),
+    ],
+    "Canceled": [
+        {"given": [{"begins": "Save"}, {"succeeds": "j_Load"}], "final": "Load", "in": LATE},
+        {"given": ["no_request"], "final": "Load", "in": ["RanToCompletion", "Faulted"]},
+        {"final": "M", "in": ["RanToCompletion", "Faulted"]},
+        {"observed": "Load"},
+    ],
+    "Timeout": [{"observed": "Save"}, {"given": ["no_failure"], "observed": "Load"}, {"after": ["Load", "Save"]}],
+    "Early": [
+        {"runs": "Close"},
+        {"given": [{"ended": "Close", "in": ["Faulted"]}], "never": "Send"},
+        {"after": ["Close", "Send"]},
+    ],
+    "Nested": [{"given": [{"succeeds": "j_A"}, {"succeeds": "j_B"}, {"succeeds": "j_C"}], "never": "D"}, {"after": ["B", "D"]}],
+}
+FALSE: dict[str, list[dict]] = {
+    "Using": [{"runs": "Dispose"}, {"never": "Send"}, {"observed": "M"}, {"given": [{"never": "Dispose"}], "never": "Load"}],
+    "Canceled": [{"given": ["no_failure"], "final": "Load", "in": ["RanToCompletion"]}, {**LATER, "final": "Load", "in": LATE}],
+    "Timeout": [{"observed": "Load"}, {"after": ["Delay", "Save"]}, {"given": ["no_failure"], "runs": "Save"}],
+    "Early": [{"given": ["no_failure"], "runs": "Send"}, {"excludes": ["Send", "Close"]}],
+    "Nested": [{"never": "D"}, {"excludes": ["C", "D"]}, {"given": [{"succeeds": "j_A"}], "runs": "C"}],
+}
+
+
+@pytest.mark.parametrize("name, claim, is_true", [case for name in TRUE for case in claims(name)])
+def test_claims_hold_or_fail(name: str, claim: dict, is_true: bool):
+    assert Truth(method(name), STATES, Runs).holds(claim) == is_true

@@ -4,6 +4,7 @@ The method is the graph's first task, and the calls that it makes are its childr
 """
 import functools
 import itertools
+from collections.abc import Iterator
 
 import every_run
 import machine
@@ -15,7 +16,17 @@ Outcome = tuple[tuple[str, ...], tuple[str, ...]]
 
 
 class Runs(machine.Machine, every_run.Runs):
-    """All runs of a graph with these values of its inputs."""
+    """All runs of a graph with these values of its inputs, and the states from which a run that isn't complete can't go on."""
+
+    def __init__(self, graph: Graph, inputs: dict[str, bool], most: int):
+        self.stuck: list[State] = []
+        super().__init__(graph, inputs, most)
+
+    def following(self, state: State) -> Iterator[tuple[Act, State]]:
+        found = [*super().following(state)]
+        if not found and not self.facts_of(state).is_complete:
+            self.stuck.append(state)
+        return iter(found)
 
 
 class Outcomes:
@@ -40,7 +51,7 @@ class Outcomes:
             found.add(((), tuple(sorted(unread))))
         return frozenset(found)
 
-    def seen(self, act: Act, before: State, after: State):
+    def seen(self, act: Act, before: State, after: State) -> Iterator[str]:
         """What an event shows: a request, a call, work of the method's own, and how a call or the method ends."""
         if act.word == "request":
             yield f"request {act.what}"
