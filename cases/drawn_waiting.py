@@ -1,5 +1,5 @@
-"""Documents of version 4 that are drawn by chance: graphs of all kinds of task, into whose bodies waits, tries and answers are put
-one after another, each where the document can still be read."""
+"""Documents of version 4 that are drawn by chance: graphs of all kinds of task, into whose bodies waits, tries and answers are
+put one after another, each where the document can still be read."""
 import copy
 import random
 from collections.abc import Iterator

@@ -6,19 +6,7 @@ journal are.
 import re
 from collections.abc import Callable, Iterator
 
-from bodies import (
-    Form,
-    Started,
-    are_texts,
-    fits,
-    is_bool,
-    is_body,
-    is_final,
-    is_old,
-    is_text,
-    is_too_much,
-    misplaced,
-)
+from bodies import Form, Started, are_texts, fits, is_bool, is_body, is_final, is_old, is_text, is_too_much, misplaced
 from small import EXCLUDED, FINALS, WITH_BODY, Graph, body_of, statements_of
 
 NAME = re.compile(r"[A-Za-z_][A-Za-z0-9_]{0,31}")

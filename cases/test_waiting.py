@@ -17,12 +17,12 @@ import run_mistakes
 from audited import Played, audit
 from bodies import Started
 from drawn_waiting import Waiting
-from every_run import Truth, TooManyStates
+from every_run import TooManyStates, Truth
 from harness import HERE, Case, all_cases, cases_of
 from machine import Machine
 from refusals import Reading
 from sound import KINDS
-from waiting import Runs, outcomes
+from waiting import Runs, outcomes, stuck
 
 METHODS = HERE / "methods"
 # how many outcomes the runs of each document have
@@ -152,7 +152,10 @@ RUN = cases_of("version4/runs")
 def audit_with(case: Case, kind: type) -> str:
     """What is written of a journal by a machine, or by workers, of this kind."""
     document = json.loads(case.stdin)
-    return audit(document, played=kind) if issubclass(kind, Played) else audit(document, kind)
+    if issubclass(kind, Machine):
+        return audit(document, kind)
+    assert issubclass(kind, Played)
+    return audit(document, played=kind)
 
 
 @pytest.mark.parametrize("case", RUN, ids=str)
@@ -195,10 +198,9 @@ DRAWN, STATES = 50, 4000
 @pytest.mark.drawn(DRAWN)
 def test_no_run_gets_stuck(number: int):
     try:
-        truth = Truth(Waiting(number).read(), STATES, Runs)
+        assert stuck(Waiting(number).read(), STATES) == []
     except TooManyStates:
         pytest.skip("too many states")
-    assert [runs.stuck for runs in truth.all] == [[]] * len(truth.all)
 
 
 def root(name: str, *body, **more) -> dict:
@@ -225,7 +227,7 @@ def test_what_is_refused_gets_stuck(what: str):
     document = {"version": 4, "inputs": ["i"], "tasks": STUCK[what]}
     fault = Reading(document).fault() or ""
     assert fault.startswith("graph NotStarted")
-    assert any(runs.stuck for runs in Truth(document, STATES, Runs).all)
+    assert stuck(document, STATES)
 
 
 # how many graphs of version 3 are drawn

@@ -64,9 +64,19 @@ class Outcomes:
                 yield f"end {task.name} {later.final}"
 
 
+def each_inputs(graph: Graph) -> Iterator[dict[str, bool]]:
+    """Each way in which the inputs of a graph may have values."""
+    values = itertools.product((False, True), repeat=len(graph.inputs))
+    return (dict(zip(graph.inputs, each)) for each in values)
+
+
+def stuck(document: dict, most: int) -> list[State]:
+    """The states of a document's runs from which none goes on, though it isn't complete."""
+    graph = Graph(document)
+    return [state for inputs in each_inputs(graph) for state in Runs(graph, inputs, most).stuck]
+
+
 def outcomes(document: dict, kind: type[machine.Machine] = machine.Machine) -> set[Outcome]:
     """What can be seen of the runs of a document, whatever its inputs are, by a machine of this kind."""
     graph = Graph(document)
-    values = itertools.product((False, True), repeat=len(graph.inputs))
-    machines = (kind(graph, dict(zip(graph.inputs, each))) for each in values)
-    return set().union(*(Outcomes(each).all() for each in machines))
+    return set().union(*(Outcomes(kind(graph, inputs)).all() for inputs in each_inputs(graph)))
