@@ -37,7 +37,8 @@ class Method:
             return [{"start": names[0]}, {"start": names[1]}, self.waiting(names, depth, in_catch, in_finally)]
         if drawn < 0.3 and len(self.calls) < CALLS:
             name = self.call()
-            return [{"start": name}, *([{"await": name}] if chance.random() < 0.7 else [])]
+            word = chance.choice(("await", "await", "await", "wait"))
+            return [{"start": name}, *([{word: name}] if chance.random() < 0.7 else [])]
         if drawn < 0.45 and self.calls:
             names = [call["name"] for call in self.calls]
             some = chance.sample(names, min(len(names), chance.choice((1, 1, 2))))
@@ -54,8 +55,9 @@ class Method:
         return [chance.choice([{"check": TOKEN}, *leaving])]
 
     def waiting(self, names: list[str], depth: int, in_catch: bool, in_finally: bool) -> dict:
-        if self.chance.random() < 0.6:
-            return {"await": names}
+        drawn = self.chance.random()
+        if drawn < 0.6:
+            return {"await" if drawn < 0.4 else "wait": names}
         if not depth or self.chance.random() < 0.3:
             return {"await_any": names}
         lists = (self.block(depth - 1, in_catch, in_finally) for _ in range(2))
@@ -106,6 +108,8 @@ class Method:
                 return self.started(name)
             case {"await": names}:
                 return f"await {names if isinstance(names, str) else all_of(names)};"
+            case {"wait": names}:
+                return f"WaitFor({names if isinstance(names, str) else ', '.join(names)});"
             case {"if": name}:
                 return f'if (Input("{name}")) {self.branches(said)}'
             case {"await_any": names, "won": won}:

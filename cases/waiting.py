@@ -15,6 +15,10 @@ from small import Graph
 Outcome = tuple[tuple[str, ...], tuple[str, ...]]
 
 
+class Stuck(Exception):
+    """A run that isn't complete can't go on."""
+
+
 class Runs(machine.Machine, every_run.Runs):
     """All runs of a graph with these values of its inputs, and the states from which a run that isn't complete can't go on."""
 
@@ -45,7 +49,8 @@ class Outcomes:
         for act, following in self.machine.following(state):
             seen = tuple(self.seen(act, state, following))
             found |= {(seen + more, unread) for more, unread in self.ends(following)}
-        assert found or facts.is_complete, f"a run is stuck: {state}"
+        if not found and not facts.is_complete:
+            raise Stuck(state)
         if facts.is_complete:
             unread = (self.graph.tasks[place].name for place in facts.unread if place in self.graph.parents)
             found.add(((), tuple(sorted(unread))))

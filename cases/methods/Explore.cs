@@ -132,6 +132,18 @@ public abstract class Played
         Throw(thrown);
     }
 
+    /// <summary>Waits without an await: others act until the tasks have ended.</summary>
+    protected void WaitFor(params Task[] awaited)
+    {
+        SynchronizationContext before = SynchronizationContext.Current;
+        while (!awaited.All(it => it.IsCompleted))
+        {
+            Act(false, false);
+        }
+        SynchronizationContext.SetSynchronizationContext(before);
+        Task.WaitAll(awaited);
+    }
+
     /// <summary>A check of the token.</summary>
     protected void Check()
     {
