@@ -33,13 +33,15 @@ HEAD_LINES = 5
 # the compiler comes to no end with some methods, and names them: so many may be left out of each hundred
 LEFT_OUT = 5
 # mistakes in the machine that methods drawn by chance show, since C# does what the machine doesn't
-SHOWN = """WaitOfCanceledCancels WaitOfLetOutCancels WaitReadsNothing AwaitOfCanceledThrows AwaitCancelsIfAllAre CanceledBeforeFaulted LetOutIsException FaultedIsCancellation
-LetOutLostAmongSeveral LetOutByTheLast AwaitReadsNothing AwaitReadsTheFirst AnyWaitsForAll AnyThrowsOn OthersTakeThen
-ThenIsAlwaysTaken OtherTokenFaults OtherTokenCancels OtherTokenIsException ReturnPastAFinally ExceptionPastAFinally
-CancellationPastAFinally EndPastAFinally HandlerPastAFinally FinallySwallows ThrownInFinallyIsLost ThrownInFinallyStops
-CatchTakesNoCancellation CatchBeforeCatchCanceled CatchCanceledTakesExceptions ReturnIsCaught NothingIsCaught
-ThrownInHandlerIsLost HandlersFollowOneAnother FinallyBeforeHandler CanceledJobGoesOn CanceledJobIsAcknowledged
-CanceledJobIsException CanceledJobReturns CanceledOnlyWhereItMayFail CanceledOnlyWhereRequested""".split()
+SHOWN = """WaitOfCanceledCancels WaitOfLetOutCancels WaitReadsNothing AwaitOfCanceledThrows AwaitCancelsIfAllAre
+CanceledBeforeFaulted LetOutIsException FaultedIsCancellation LetOutLostAmongSeveral LetOutByTheLast
+AwaitReadsNothing AwaitReadsTheFirst AnyWaitsForAll AnyThrowsOn OthersTakeThen ThenIsAlwaysTaken
+OtherTokenFaults OtherTokenCancels OtherTokenIsException ReturnPastAFinally ExceptionPastAFinally
+CancellationPastAFinally EndPastAFinally HandlerPastAFinally FinallySwallows ThrownInFinallyIsLost
+ThrownInFinallyStops CatchTakesNoCancellation CatchBeforeCatchCanceled CatchCanceledTakesExceptions
+ReturnIsCaught NothingIsCaught ThrownInHandlerIsLost FinallyBeforeHandler CanceledJobGoesOn
+CanceledJobIsAcknowledged CanceledJobIsException CanceledJobReturns CanceledOnlyWhereItMayFail
+CanceledOnlyWhereRequested""".split()
 
 
 class Seen:
