@@ -20,7 +20,7 @@ import run_mistakes
 from drawn_methods import Method, class_of
 from harness import HERE
 from refusals import fault
-from waiting import Outcome, Stuck, outcomes
+from waiting import Outcome, Stuck, outcomes, told
 
 HOME = HERE / "methods"
 DOCUMENTS = {path.stem: json.loads(path.read_text(encoding="utf-8")) for path in sorted(HOME.glob("*.json"))}
@@ -82,7 +82,9 @@ def by_hand(folder) -> Seen:
 
 @pytest.mark.parametrize("name", sorted(set(DOCUMENTS) - {"Timeout"}))
 def test_a_method_is_its_document(by_hand, name: str):
+    lines = (HOME / f"{name}.txt").read_text(encoding="utf-8").splitlines()
     assert name not in by_hand.cut
+    assert sorted(map(told, by_hand.outcomes[name])) == sorted(lines)
     assert by_hand.outcomes[name] == outcomes(DOCUMENTS[name])
 
 

@@ -85,3 +85,9 @@ def outcomes(document: dict, kind: type[machine.Machine] = machine.Machine) -> s
     """What can be seen of the runs of a document, whatever its inputs are, by a machine of this kind."""
     graph = Graph(document)
     return set().union(*(Outcomes(kind(graph, inputs)).all() for inputs in each_inputs(graph)))
+
+
+def told(outcome: Outcome) -> str:
+    """An outcome on a line."""
+    seen, unread = outcome
+    return ", ".join(seen) + (f"; unread {', '.join(unread)}" if unread else "")
