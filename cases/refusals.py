@@ -1,13 +1,13 @@
 """The first fault of a document of version 3 or 4, as the program names it, by the rules of documents alone.
 
-The whole document is looked through for one kind of fault before the next. Certificates are left out, and what the bytes and the
-journal are.
+The whole document is looked through for one kind of fault before the next. What the bytes and the journal are is left out.
 """
 import re
 from collections.abc import Callable, Iterator
 
 from bodies import Form, Started, are_texts, fits, is_bool, is_body, is_final, is_old, is_text, is_too_much, misplaced
 from small import EXCLUDED, FINALS, WITH_BODY, Graph, body_of, statements_of
+from trees import tree_fault
 
 NAME = re.compile(r"[A-Za-z_][A-Za-z0-9_]{0,31}")
 CREATION = "None PreferFairness LongRunning AttachedToParent DenyChildAttach HideScheduler RunContinuationsAsynchronously".split()
@@ -117,7 +117,7 @@ class Reading:
 
     def fault(self) -> str | None:
         """The first fault, or None."""
-        return self.shape() or self.graph_fault() or self.claim_fault() or self.start_fault()
+        return self.shape() or self.graph_fault() or self.claim_fault() or self.certificate_fault() or self.start_fault()
 
     def shape(self) -> str | None:
         if self.version not in INPUTS or not fits(self.document, TOP) or not self.has_times():
@@ -261,7 +261,7 @@ class Reading:
     def not_started(self) -> Iterator[int]:
         yield from (place + 1 for place in self.started(Graph(self.document)).wrong)
 
-    # ---- claims, and the start
+    # ---- claims, their trees, and the start
 
     def claim_fault(self) -> str | None:
         self.names["sites"] = [said[1] for _, said in self.statements("work")]
@@ -291,6 +291,14 @@ class Reading:
 
     def is_known(self, word: str, name: str) -> bool:
         return word in ALL_GIVEN or name in self.names[GIVEN[word]]
+
+    def certificate_fault(self) -> str | None:
+        bodies = [task["name"] for _, task in self.tasks if task["kind"] in WITH_BODY]
+        for number, tree in enumerate(self.document.get("certificate", []), 1):
+            why = tree_fault(tree, self.names, bodies, self.version)
+            if why:
+                return f"certificate {number} {why}"
+        return None
 
     def start_fault(self) -> str | None:
         """Missing is left out: of the commands some ask for the values of inputs."""
