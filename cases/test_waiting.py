@@ -21,6 +21,7 @@ from every_run import TooManyStates, Truth
 from harness import HERE, Case, all_cases, cases_of
 from machine import Machine
 from refusals import Reading
+from small import body_of, statements_of
 from sound import KINDS
 from waiting import Runs, outcomes, stuck, told
 
@@ -145,6 +146,12 @@ def test_what_was_worked_out_of_version_3(version: int):
         told = re.match("unreadable: ((?:shape|graph|claim|certificate|start) (?!Missing).+)\n", case.stdout or "")
         fault = Reading({**json.loads(case.stdin), "version": version}).fault()
         assert fault == (told and told[1]), str(case)
+
+
+def test_a_try_is_read_in_one_order():
+    """Its list, then what catches cancellations, then the catch and the finally, in whatever order they stand."""
+    said = {"finally": [{"work": "d"}], "catch": [{"work": "c"}], "try": [{"work": "a"}], "catch_canceled": [{"work": "b"}]}
+    assert [statement[1] for statement in statements_of(body_of([said])) if statement[0] == "work"] == [*"abcd"]
 
 
 # ---- which journals are runs
