@@ -575,6 +575,13 @@ class BeginsIsKept(Given):
         return True
 
 
+class BeginsOfChildrenToo(Given):
+    """That a task begins is broken by a child that never does."""
+
+    def begins(self, facts, place):
+        return facts.missed.isdisjoint({place, *self.graph.started_by(place)})
+
+
 class NeverUntilStarted(Given):
     """That a task never begins is broken by its start."""
 
