@@ -3,6 +3,7 @@
 Who does what is left out: a worker may have any number of bodies open, so for each order of acts there are workers.
 """
 import itertools
+from collections.abc import Iterator
 from typing import NamedTuple
 
 from small import CANCELED, FAULTED, FINALS, RAN, WITH_BODY, Graph
@@ -10,12 +11,21 @@ from small import CANCELED, FAULTED, FINALS, RAN, WITH_BODY, Graph
 # how far a task has come; the rest of TaskStatus lies between the last two
 WAITING, CREATED, READY, RUNNING, CLOSING, ENDED = "waiting", "created", "ready", "running", "closing", "ended"
 OPENING = {"root": READY, "child": CREATED}
-# how a body was over; nothing, if it isn't
-RETURNED, THREW, ACKNOWLEDGED = ("returned",), "threw", ("acknowledged",)
+# how a body was over; nothing, if it isn't. The last one, in bodies that wait, threw a cancellation that it didn't acknowledge
+RETURNED, THREW, ACKNOWLEDGED, LET_OUT = "returned", "threw", "acknowledged", "let out"
+THROWN = (THREW, LET_OUT)
 
 
 class TooManyStates(Exception):
     """The graph has more states than are gone through."""
+
+
+class Act(NamedTuple):
+    """What happens, by its word in a journal; the task or token that it is of; how a job answered, or which task won."""
+
+    word: str
+    what: int | str
+    more: int | str | None = None
 
 
 class Task(NamedTuple):
@@ -24,7 +34,7 @@ class Task(NamedTuple):
 
     phase: str
     left: tuple
-    over: tuple = ()
+    over: str | None = None
     has_begun: bool = False
     final: str | None = None
     carried: tuple[int, ...] = ()
@@ -33,11 +43,12 @@ class Task(NamedTuple):
 
 class State(NamedTuple):
     """A run so far, as far as it matters for what follows and for claims: the tasks, the tokens that were requested
-    themselves, and the tasks whose exceptions were observed."""
+    themselves, the tasks whose exceptions were observed, and the sites whose jobs answered otherwise than done."""
 
     tasks: tuple[Task, ...]
     asked: frozenset[str] = frozenset()
     seen: frozenset[int] = frozenset()
+    failed: frozenset[str] = frozenset()
 
     def with_task(self, place: int, **changed):
         tasks = list(self.tasks)
@@ -50,8 +61,10 @@ class Facts(NamedTuple):
 
     finals: tuple[str | None, ...]
     begun: frozenset[int]
+    # the tasks with a body that are settled and have never begun
+    missed: frozenset[int]
     requested: frozenset[str]
-    # the sites whose jobs answered failed
+    # the sites whose jobs answered otherwise than done
     failed: frozenset[str]
     # the tasks whose bodies threw an exception, and those of them whose exception wasn't observed
     threw: frozenset[int]
@@ -67,29 +80,11 @@ class Begin(NamedTuple):
     settled: frozenset[int]
 
 
-class Runs:
-    """All runs of a graph with these values of its inputs."""
+class Machine:
+    """What may happen in a graph with these values of its inputs."""
 
-    def __init__(self, graph: Graph, inputs: dict[str, bool], most: int):
+    def __init__(self, graph: Graph, inputs: dict[str, bool]):
         self.graph, self.inputs = graph, inputs
-        self.facts: set[Facts] = set()
-        self.begins: set[Begin] = set()
-        self.count = self.explore(most)
-
-    def explore(self, most: int) -> int:
-        """Goes through all states, and says how many there are."""
-        first = self.opening()
-        known, left = {first}, [first]
-        while left:
-            state = left.pop()
-            self.facts.add(self.facts_of(state))
-            for following in self.following(state):
-                if following not in known:
-                    known.add(following)
-                    left.append(following)
-            if len(known) > most:
-                raise TooManyStates
-        return len(known)
 
     def opening(self) -> State:
         """Before the first event. WhenAll of nothing has ended."""
@@ -105,12 +100,12 @@ class Runs:
 
     # ---- what may happen next
 
-    def following(self, state: State):
-        """The states after each event that is allowed."""
+    def following(self, state: State) -> Iterator[tuple[Act, State]]:
+        """Each event that is allowed, with the state after it."""
         requested = self.requested(state)
         for token in self.graph.sources:
             if token not in requested:
-                yield state._replace(asked=state.asked | {token})
+                yield Act("request", token), state._replace(asked=state.asked | {token})
         for place, task in enumerate(state.tasks):
             if task.phase == RUNNING:
                 yield from self.in_body(state, place, requested)
@@ -125,11 +120,11 @@ class Runs:
         task, now = self.graph.tasks[place], state.tasks[place]
         is_stopped = task.token in requested
         if now.phase == READY and is_stopped:
-            yield self.ended(state, place, CANCELED)
+            yield Act("drop", place), self.ended(state, place, CANCELED)
         elif now.phase == READY:
-            yield self.begun(state, place)
+            yield Act("begin", place), self.begun(state, place)
         elif now.phase == CLOSING and self.is_alone(state, place):
-            yield self.body_ended(state, place)
+            yield Act("close", place), self.body_ended(state, place)
         elif now.phase == WAITING and task.kind == "then":
             yield from self.continuation(state, place, is_stopped)
         elif now.phase == WAITING:
@@ -140,59 +135,71 @@ class Runs:
         task = self.graph.tasks[place]
         final = state.tasks[task.antecedent].final
         if final and task.may_follow(final) and not is_stopped:
-            yield state.with_task(place, phase=READY)
+            yield Act("release", place), state.with_task(place, phase=READY)
         may_stop = is_stopped and (not task.is_lazy or final)
         if may_stop or final and not task.may_follow(final):
-            yield self.ended(state, place, CANCELED)
+            yield Act("drop", place), self.ended(state, place, CANCELED)
 
     def settled(self, state: State, place: int):
         """A WhenAll or WhenAny task that waits ends where all, or one, of its tasks have."""
         task = self.graph.tasks[place]
         finals = [state.tasks[argument].final for argument in task.of]
         if task.kind == "any" and any(finals):
-            yield self.ended(state, place, RAN)
+            yield Act("settle", place), self.ended(state, place, RAN)
         if task.kind == "all" and all(finals):
             worst = FAULTED if FAULTED in finals else CANCELED if CANCELED in finals else RAN
-            yield self.ended(state, place, worst, self.gathered(state, (), task.of))
+            yield Act("settle", place), self.ended(state, place, worst, self.gathered(state, (), task.of))
 
     def begun(self, state: State, place: int) -> State:
-        """The task begins, which is noted."""
-        after = state.with_task(place, phase=RUNNING, has_begun=True)
-        settled = frozenset(number for number in range(len(state.tasks)) if self.is_settled(state, number))
-        self.begins.add(Begin(place, self.facts_of(after), settled))
-        return after
+        """The task begins."""
+        return state.with_task(place, phase=RUNNING, has_begun=True)
 
     def in_body(self, state: State, place: int, requested):
         """A running task passes its next statement, or its body is left."""
         now = state.tasks[place]
         if now.over or not now.left:
             left = state.with_task(place, phase=CLOSING, over=now.over or RETURNED)
-            yield self.body_ended(left, place) if self.is_alone(left, place) else left
-            return
-        statement, more = now.left[0], now.left[1:]
-        passed = state.with_task(place, left=more)
-        word = statement[0]
-        if word == "work":
-            yield passed
-            if statement[2]:
-                yield state.with_task(place, left=(), over=(THREW, statement[1]))
-        elif word in ("return", "throw", "check"):
-            over = self.over_by(statement, self.graph.tasks[place].token, requested)
-            yield state.with_task(place, left=(), over=over) if over else passed
-        elif word in ("if", "when"):
-            yield state.with_task(place, left=self.chosen(state, place, statement) + more)
+            yield Act("leave", place), self.body_ended(left, place) if self.is_alone(left, place) else left
+        elif now.left[0][0] == "work":
+            yield from self.worked(state, place, now.left[0])
         else:
-            yield self.acted(passed, place, statement)
+            yield Act("step", place), self.stepped(state, place, requested)
 
-    def over_by(self, statement: tuple, own: str | None, requested):
-        """How the body is over by this statement, or None."""
+    def worked(self, state: State, place: int, job: tuple) -> Iterator[tuple[Act, State]]:
+        """The job of the next statement answers."""
+        left, missed = state.tasks[place].left[1:], state._replace(failed=state.failed | {job[1]})
+        yield Act("worked", place, "done"), self.with_rest(state, place, left)
+        if job[2]:
+            yield Act("worked", place, "failed"), self.thrown(missed, place, THREW)
+
+    def stepped(self, state: State, place: int, requested) -> State:
+        """The next statement is passed, which is no job."""
+        statement, *more = state.tasks[place].left
+        word, left = statement[0], tuple(more)
+        if word in ("return", "throw", "check"):
+            way = self.way_of(statement, self.graph.tasks[place].token, requested)
+            return self.thrown(state, place, way) if way else self.with_rest(state, place, left)
+        if word in ("if", "when"):
+            return self.with_rest(state, place, self.chosen(state, place, statement) + left)
+        return self.acted(self.with_rest(state, place, left), place, statement)
+
+    def with_rest(self, state: State, place: int, left: tuple) -> State:
+        """The body goes on with these statements."""
+        return state.with_task(place, left=left)
+
+    def thrown(self, state: State, place: int, way: str) -> State:
+        """What comes out of the next statement ends the body."""
+        return state.with_task(place, left=(), over=way)
+
+    def way_of(self, statement: tuple, own: str | None, requested) -> str | None:
+        """What comes out of the body by this statement, or None where it goes on."""
         if statement[0] == "return":
             return RETURNED
         if statement[0] == "throw":
-            return (THREW, None)
+            return THREW
         if statement[1] not in requested:
             return None
-        return ACKNOWLEDGED if statement[1] == own else (THREW, None)
+        return ACKNOWLEDGED if statement[1] == own else THREW
 
     def chosen(self, state: State, place: int, statement: tuple) -> tuple:
         """The list of statements that a branch takes."""
@@ -234,7 +241,7 @@ class Runs:
     def body_ended(self, state: State, place: int) -> State:
         """The body is over and the task's attached children have ended."""
         over = state.tasks[place].over
-        atoms = self.gathered(state, (place,) if over[0] == THREW else (), self.graph.attached[place])
+        atoms = self.gathered(state, (place,) if over in THROWN else (), self.graph.attached[place])
         final = FAULTED if atoms else CANCELED if over == ACKNOWLEDGED else RAN
         return self.ended(state, place, final, atoms)
 
@@ -254,17 +261,50 @@ class Runs:
         return phase == ENDED or phase == CREATED and self.is_settled(state, self.graph.parents[place])
 
     def facts_of(self, state: State) -> Facts:
-        threw = [place for place, it in enumerate(state.tasks) if it.over and it.over[0] == THREW]
-        failed = (state.tasks[place].over[1] for place in threw)
+        threw = frozenset(place for place, it in enumerate(state.tasks) if it.over in THROWN)
+        idle = [place for place in self.graph.having(*WITH_BODY) if not state.tasks[place].has_begun]
         return Facts(
             tuple(task.final for task in state.tasks),
             frozenset(place for place, it in enumerate(state.tasks) if it.has_begun),
+            frozenset(place for place in idle if self.is_settled(state, place)),
             self.requested(state),
-            frozenset(site for site in failed if site is not None),
-            frozenset(threw),
-            frozenset(threw) - state.seen,
+            state.failed,
+            threw,
+            threw - state.seen,
             all(task.phase in (ENDED, CREATED) for task in state.tasks),
         )
+
+
+class Runs(Machine):
+    """All runs of a graph with these values of its inputs."""
+
+    def __init__(self, graph: Graph, inputs: dict[str, bool], most: int):
+        super().__init__(graph, inputs)
+        self.facts: set[Facts] = set()
+        self.begins: set[Begin] = set()
+        self.count = self.explore(most)
+
+    def explore(self, most: int) -> int:
+        """Goes through all states, and says how many there are."""
+        first = self.opening()
+        known, left = {first}, [first]
+        while left:
+            state = left.pop()
+            self.facts.add(self.facts_of(state))
+            for _, following in self.following(state):
+                if following not in known:
+                    known.add(following)
+                    left.append(following)
+            if len(known) > most:
+                raise TooManyStates
+        return len(known)
+
+    def begun(self, state: State, place: int) -> State:
+        """The task begins, which is noted."""
+        after = super().begun(state, place)
+        settled = frozenset(number for number in range(len(state.tasks)) if self.is_settled(state, number))
+        self.begins.add(Begin(place, self.facts_of(after), settled))
+        return after
 
 
 def is_given(graph: Graph, facts: Facts, given) -> bool:
@@ -279,7 +319,26 @@ def is_given(graph: Graph, facts: Facts, given) -> bool:
         return given["succeeds"] not in facts.failed
     if "ended" in given:
         return facts.finals[graph.places[given["ended"]]] in (None, *given["in"])
+    if "begins" in given:
+        return graph.places[given["begins"]] not in facts.missed
+    if "never" in given:
+        return graph.places[given["never"]] not in facts.begun
     return True
+
+
+def is_so(graph: Graph, facts: Facts, claim: dict) -> bool:
+    """What a claim other than `after` says is true of a run so far."""
+    place = graph.places
+    if "final" in claim:
+        return facts.finals[place[claim["final"]]] in (None, *claim["in"])
+    if "observed" in claim:
+        return not facts.is_complete or place[claim["observed"]] not in facts.unread
+    if "never" in claim:
+        return place[claim["never"]] not in facts.begun
+    if "runs" in claim:
+        return not facts.is_complete or place[claim["runs"]] in facts.begun
+    first, second = claim["excludes"]
+    return not {place[first], place[second]} <= facts.begun
 
 
 def left(task: str, ended: list[dict]) -> set[str]:
@@ -290,10 +349,10 @@ def left(task: str, ended: list[dict]) -> set[str]:
 class Truth:
     """Which claims hold in every run of a graph."""
 
-    def __init__(self, document: dict, most: int = 30_000):
+    def __init__(self, document: dict, most: int = 30_000, kind: type[Runs] = Runs):
         self.graph = Graph(document)
         values = itertools.product((False, True), repeat=len(self.graph.inputs))
-        self.all = [Runs(self.graph, dict(zip(self.graph.inputs, each)), most) for each in values]
+        self.all = [kind(self.graph, dict(zip(self.graph.inputs, each)), most) for each in values]
 
     def holds(self, claim: dict) -> bool:
         """The claim holds in every run that agrees with what it takes as given."""
@@ -342,21 +401,4 @@ class Truth:
         if "after" in claim:
             first, second = (self.graph.places[task] for task in claim["after"])
             return all(first in begin.settled for begin in runs.begins if begin.task == second and taken(begin.facts))
-        return all(self.is_so(facts, claim) for facts in runs.facts if taken(facts))
-
-    def is_so(self, facts: Facts, claim: dict) -> bool:
-        """What a claim other than `after` says is true of a run so far."""
-
-        def place(name):
-            return self.graph.places[name]
-
-        if "final" in claim:
-            return facts.finals[place(claim["final"])] in (None, *claim["in"])
-        if "observed" in claim:
-            return not facts.is_complete or place(claim["observed"]) not in facts.unread
-        if "never" in claim:
-            return place(claim["never"]) not in facts.begun
-        if "runs" in claim:
-            return not facts.is_complete or place(claim["runs"]) in facts.begun
-        first, second = claim["excludes"]
-        return not {place(first), place(second)} <= facts.begun
+        return all(is_so(self.graph, facts, claim) for facts in runs.facts if taken(facts))

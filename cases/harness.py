@@ -19,7 +19,20 @@ BUILT = ("crates/{0}/out/{0}", "crates/{0}/out/unproved", "tests/{0}/out/unprove
 PROGRAM, RUNS = "tpl_cli", "sessions"
 COMMANDS = ("check", "analyse", "run", "audit", "refute", "verify", "draw", "trace")
 # what a case may say
-KEYS = {"name", "words", "stdin", "stdin_base64", "document", "changes", "repeated", "stdout", "contains", "stderr", "exit"}
+KEYS = {
+    "name",
+    "words",
+    "stdin",
+    "stdin_base64",
+    "document",
+    "changes",
+    "repeated",
+    "stdout",
+    "contains",
+    "stderr",
+    "exit",
+    "finds",
+}
 # how long an answer may take, in seconds
 LIMIT = 120
 # the exit status where the words are wrong
@@ -112,6 +125,8 @@ class Case:
     # lines that have to be written, and pieces of what has to be said on standard error; None: anything may be said
     contains: tuple[str, ...]
     stderr: tuple[str, ...] | None
+    # the mistakes in a model of the rules that it is there to find
+    finds: tuple[str, ...] = ()
 
     def __str__(self):
         return slug(f"{self.file}: {self.name}")
@@ -157,7 +172,7 @@ def case_of(file: str, table: dict, documents: dict[str, str]) -> Case:
     words = tuple(shlex.split(table["words"]))
     said = tuple(table["stderr"]) if "stderr" in table else None
     written, lines = table.get("stdout"), tuple(table.get("contains", ()))
-    return Case(file, table["name"], words, stdin, table["exit"], written, lines, said)
+    return Case(file, table["name"], words, stdin, table["exit"], written, lines, said, tuple(table.get("finds", ())))
 
 
 def files() -> list[str]:

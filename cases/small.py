@@ -12,6 +12,8 @@ EXCLUDED = {
     "OnlyOnFaulted": {RAN, CANCELED},
 }
 WITH_BODY = ("root", "child", "then")
+# the lists of a try behind its first one, in their order
+HANDLERS = ("catch_canceled", "catch", "finally")
 
 
 def statement_of(said) -> tuple:
@@ -19,11 +21,18 @@ def statement_of(said) -> tuple:
     if isinstance(said, str):
         return (said,)
     if "work" in said:
-        return ("work", said["work"], said.get("may_fail", False))
+        return ("work", said["work"], said.get("may_fail", False), said.get("may_cancel", False))
     for word in ("if", "when"):
         if word in said:
             return (word, said[word], body_of(said["then"]), body_of(said.get("else", [])))
+    if "await_any" in said:
+        branches = (body_of(said.get(part, [])) if "won" in said else None for part in ("then", "else"))
+        return ("await_any", tuple(said["await_any"]), said.get("won"), *branches)
+    if "try" in said:
+        return ("try", body_of(said["try"]), *(body_of(said[part]) if part in said else None for part in HANDLERS))
     ((word, name),) = said.items()
+    if word in ("await", "wait"):
+        return (word, (name,) if isinstance(name, str) else tuple(name))
     return (word, name)
 
 
@@ -31,13 +40,18 @@ def body_of(statements) -> tuple:
     return tuple(map(statement_of, statements))
 
 
+def lists_of(statement: tuple) -> tuple:
+    """The lists that a statement has, in the order of the text."""
+    first = {"if": 2, "when": 2, "await_any": 3, "try": 1}.get(statement[0])
+    return () if first is None else tuple(part for part in statement[first:] if part is not None)
+
+
 def statements_of(body):
-    """The statements of a body in the order of its text, those in branches behind the one that branches."""
+    """The statements of a body in the order of its text, those in lists behind the one that has them."""
     for statement in body:
         yield statement
-        if statement[0] in ("if", "when"):
-            yield from statements_of(statement[2])
-            yield from statements_of(statement[3])
+        for part in lists_of(statement):
+            yield from statements_of(part)
 
 
 @dataclasses.dataclass(frozen=True)
@@ -51,6 +65,7 @@ class Task:
     token: str | None
     options: frozenset[str]
     body: tuple
+    is_async: bool = False
 
     @property
     def excluded(self) -> set[str]:
@@ -89,7 +104,8 @@ class Graph:
     def task_of(self, said: dict) -> Task:
         after = self.places[said["after"]] if "after" in said else None
         of, options = (self.places[name] for name in said.get("of", [])), frozenset(said.get("options", []))
-        return Task(said["name"], said["kind"], after, tuple(of), said.get("token"), options, body_of(said.get("body", [])))
+        body, is_async = body_of(said.get("body", [])), said.get("async", False)
+        return Task(said["name"], said["kind"], after, tuple(of), said.get("token"), options, body, is_async)
 
     def started_by(self, place: int) -> list[int]:
         """The children that the body of a task starts, in the order of its text."""
@@ -97,10 +113,11 @@ class Graph:
 
     def attached_to(self, place: int) -> tuple[int, ...]:
         """The attached children of a task, in the same order."""
-        may_attach = "DenyChildAttach" not in self.tasks[place].options
+        parent = self.tasks[place]
+        may_attach = "DenyChildAttach" not in parent.options and not parent.is_async
 
         def is_attached(child):
-            return may_attach and "AttachedToParent" in self.tasks[child].options
+            return may_attach and "AttachedToParent" in self.tasks[child].options and not self.tasks[child].is_async
 
         return tuple(filter(is_attached, self.started_by(place)))
 
