@@ -5,7 +5,7 @@ The whole document is looked through for one kind of fault before the next. What
 import re
 from collections.abc import Callable, Iterator
 
-from bodies import Form, Started, are_texts, fits, is_bool, is_body, is_final, is_old, is_text, is_too_much, misplaced
+from bodies import Form, Started, are_texts, fits, is_body, is_bool, is_final, is_old, is_text, is_too_much, misplaced
 from small import EXCLUDED, FINALS, WITH_BODY, Graph, body_of, statements_of
 from trees import tree_fault
 
