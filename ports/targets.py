@@ -142,7 +142,7 @@ def make_windows(source: Source, room: pathlib.Path, to: pathlib.Path) -> None:
 def make_wasm(source: Source, room: pathlib.Path, to: pathlib.Path) -> None:
     """A program for WASI (preview 1). Its stack comes first in memory: one that is full runs out of memory's bounds, which
     stops the program."""
-    features = ["-mbulk-memory", "-msign-ext", "-mnontrapping-fptoint"]
+    features = ["-mbulk-memory", "-msign-ext", "-msimd128", "-mnontrapping-fptoint"]
     text_of(source, room / "text.ll", "-Xclang", "-disable-llvm-passes")
     target = ["--target=wasm32-unknown-wasip1", "-Wno-override-module"]
     made = compiled(room / "text.ll", for_wasm32, room, *target, *features)

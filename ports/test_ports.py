@@ -90,6 +90,18 @@ def test_pointers_of_32_bits_keep_8_bytes():
     assert "  %wide.b.at = getelementptr i8, ptr @table, i64 16" in lines
 
 
+def test_bytes_of_a_vector_are_picked_as_x86_picks_them():
+    vectors = "<16 x i8> %bytes, <16 x i8> %places"
+    pick = "@llvm.x86.ssse3.pshuf.b.128"
+    body = f"  %picked = call <16 x i8> {pick}({vectors})\n  ret <16 x i8> %picked\n"
+    text = for_wasm32(f"{HEAD}define <16 x i8> @f({vectors}) {{\n{body}}}\n\ndeclare <16 x i8> {pick}(<16 x i8>, <16 x i8>)\n")
+    lines = text.split("\n")
+    # the highest bit, which gives 0 on both, and the last 4, which x86 alone looks at
+    at = lines.index(f"  %picked.by = and <16 x i8> %places, <{', '.join(['i8 -113'] * 16)}>")
+    assert lines[at + 1] == "  %picked = call <16 x i8> @llvm.wasm.swizzle(<16 x i8> %bytes, <16 x i8> %picked.by)"
+    assert "ssse3" not in text
+
+
 @pytest.mark.parametrize(
     "line",
     [

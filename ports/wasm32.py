@@ -33,6 +33,12 @@ CONSTANT = re.compile(r"(@.*? (?:constant|global) )<\{ (.*?) \}> <\{ (.*)")
 POINTER_VALUE = re.compile(r'\bptr (?:getelementptr \(i8, ptr (?:@"[^"]*"|@[\w.]+), i64 \d+\)|@"[^"]*"|@[\w.]+|null)')
 # a text holds no pointer
 TEXT = re.compile(r'(c"[^"]*")')
+# picks bytes of the first vector by the second; its declaration stands by itself
+PICKS = r"<16 x i8> @llvm\.x86\.ssse3\.pshuf\.b\.128\("
+PICK = re.compile(rf"(?m)^  (%\S+) = (?:tail )?call {PICKS}<16 x i8> (.+), <16 x i8> (.+)\).*$")
+DECLARED_PICK = re.compile(rf"(?m)^declare {PICKS}.*$")
+# of a number above 127 x86 gives 0, and of any other it takes the last 4 bits; wasm gives 0 above 15
+BITS_OF_PICK = -113
 # how much of a line is shown that isn't known
 SHOWN = 300
 
@@ -94,6 +100,14 @@ def narrowed(line: str, number: int) -> Iterator[str]:
         yield line
 
 
+def with_picks(text: str) -> str:
+    """Has the instruction of wasm pick bytes of a vector in place of that of x86, and the same ones."""
+    bits = ", ".join([f"i8 {BITS_OF_PICK}"] * 16)
+    by = rf"  \1.by = and <16 x i8> \3, <{bits}>\n"
+    text = PICK.sub(by + r"  \1 = call <16 x i8> @llvm.wasm.swizzle(<16 x i8> \2, <16 x i8> \1.by)", text)
+    return DECLARED_PICK.sub("declare <16 x i8> @llvm.wasm.swizzle(<16 x i8>, <16 x i8>)", text)
+
+
 def refuse_forms(text: str) -> None:
     """Refuses a module that has one of the forms for which nothing else looks."""
     bare = TEXT.sub("", text)
@@ -106,6 +120,7 @@ def for_wasm32(text: str) -> str:
     refuse_forms(text)
     text = targeted(PAUSE.sub("", text), "wasm32-unknown-wasi", LAYOUT)
     text = without_attributes(text, "target-cpu", "probe-stack", "stack-probe-size", "frame-pointer")
+    text = with_picks(text)
     text = with_shims(text, f"main|malloc|free|_exit|abort|{CALLS}")
     lines: list[str] = []
     for number, line in enumerate(text.split("\n")):
