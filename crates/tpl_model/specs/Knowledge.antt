@@ -99,7 +99,7 @@ behind_start (Some c) r = record {
 }
 
 -- the paths that get to the end of a script, and those that get past a statement. A cancel of a token that is never
--- requested isn't passed
+-- requested isn't passed, nor is a statement of version 4
 abbrev mutual
   pub through : Reading → Statements → Reached → Reached
   through w Nothing r = r
@@ -112,11 +112,12 @@ abbrev mutual
   behind w (Cancel k) r = both (λ s. when (not (w.known.quiet k)) (with_tokens (w.linked k) s)) r
   behind w (Start c) r = behind_start (w.child c) r
   behind w Observe r = r
-  behind w (Work site may_fail) r = r
+  behind w (Work site answers) r = r
   behind w (If i first second) r =
       join (both (when (w.known.possible i true)) (through w first r)) (both (when (w.known.possible i false)) (through w second r))
   behind w (When f first second) r =
       join (both (when (w.known.subject f)) (through w first r)) (both (when (another w.known f)) (through w second r))
+  behind w s r = nowhere
 
 -- what the paths have in common that are asked for at the statements of a script
 abbrev mutual
@@ -136,8 +137,8 @@ abbrev pub ending_at : (Outcome → Reached → Option Knowledge) → Reading �
 ending_at pick w Return r = pick Returned r
 ending_at pick w (Throw l) r = pick (Threw (Thrown (record { 0 = l }))) r
 ending_at pick w (Check k) r = when (not (w.known.quiet k)) (pick (cancellation w.known.own k) (both (with_tokens (w.linked k)) r))
-ending_at pick w (Work site may_fail) r =
-    when (may_fail && not (w.known.sure site)) (pick (Threw (WorkFailed (record { 0 = site }))) r)
+ending_at pick w (Work site answers) r =
+    when (answers.may_fail && not (w.known.sure site)) (pick (Threw (WorkFailed (record { 0 = site }))) r)
 ending_at pick w s r = None
 
 -- the paths that end with an outcome

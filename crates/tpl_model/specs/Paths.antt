@@ -1,4 +1,4 @@
--- The paths of a body, where each statement chooses by itself.
+-- The paths of a body of versions 1 to 3, where each statement chooses by itself.
 use Rattle.std.specs.Prelude.{◌≡◌, ℕ, ◌⊎◌, ◌||◌, Bool, true, false, if◌then◌else◌, Option, Some, None, List, [], ◌∷◌, nat_eq}
 use Rattle.tpl_model.specs.declared.finals.Final.{Final}
 use Rattle.tpl_model.specs.declared.status.Label.{Label}
@@ -33,7 +33,7 @@ pub record Known : Type 0 where
   pub subject : Final → Bool
   pub sure : ℕ → Bool
 
--- a path goes on from the statement s before these, with what is left
+-- a path goes on from the statement s before these, with what is left. None passes a statement of version 4
 abbrev pub GoesOn : Known → Statement → Statements → Statements → Type 0
 GoesOn w Return more left = ⊥
 GoesOn w (Throw l) more left = ⊥
@@ -41,24 +41,21 @@ GoesOn w (Check k) more left = more ≡ left
 GoesOn w (Cancel k) more left = (w.quiet k ≡ false) × (more ≡ left)
 GoesOn w (Start c) more left = more ≡ left
 GoesOn w Observe more left = more ≡ left
-GoesOn w (Work site may_fail) more left = more ≡ left
+GoesOn w (Work site answers) more left = more ≡ left
 GoesOn w (If i first second) more left =
     ((w.possible i true ≡ true) × (followed_by first more ≡ left)) ⊎ ((w.possible i false ≡ true) × (followed_by second more ≡ left))
 GoesOn w (When f first second) more left =
     ((w.subject f ≡ true) × (followed_by first more ≡ left))
     ⊎ ((e : Final) × (is_final f e ≡ false) × (w.subject e ≡ true) × (followed_by second more ≡ left))
+GoesOn w s more left = ⊥
 
 -- a path ends at the statement s with this outcome
 abbrev pub EndsAt : Known → Statement → Outcome → Type 0
 EndsAt w Return outcome = outcome ≡ Returned
 EndsAt w (Throw l) outcome = outcome ≡ Threw (Thrown (record { 0 = l }))
 EndsAt w (Check k) outcome = (w.quiet k ≡ false) × (outcome ≡ cancellation w.own k)
-EndsAt w (Cancel k) outcome = ⊥
-EndsAt w (Start c) outcome = ⊥
-EndsAt w Observe outcome = ⊥
-EndsAt w (Work site may_fail) outcome = (may_fail ≡ true) × (w.sure site ≡ false) × (outcome ≡ Threw (WorkFailed (record { 0 = site })))
-EndsAt w (If i first second) outcome = ⊥
-EndsAt w (When f first second) outcome = ⊥
+EndsAt w (Work site answers) outcome = (answers.may_fail ≡ true) × (w.sure site ≡ false) × (outcome ≡ Threw (WorkFailed (record { 0 = site })))
+EndsAt w s outcome = ⊥
 
 -- passing these statements, the last one first, leads from the body to what is left
 abbrev pub Passes : Known → Statements → List Statement → Statements → Type 0

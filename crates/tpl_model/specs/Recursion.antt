@@ -27,9 +27,10 @@ abbrev mutual
   passes_by avoid w (Cancel k) = not (w.quiet k)
   passes_by avoid w (Start c) = true
   passes_by avoid w Observe = true
-  passes_by avoid w (Work site may_fail) = true
+  passes_by avoid w (Work site answers) = true
   passes_by avoid w (If i first second) = (w.possible i true && gets_through avoid w first) || (w.possible i false && gets_through avoid w second)
   passes_by avoid w (When f first second) = (w.subject f && gets_through avoid w first) || (another w f && gets_through avoid w second)
+  passes_by avoid w s = false
 
 -- some path ends at a statement of the script with a verdict that passes the test, passing no statement that is avoided
 abbrev mutual
@@ -41,12 +42,10 @@ abbrev mutual
   stops_at avoid test w Return = test Returned
   stops_at avoid test w (Throw l) = test (Threw (Thrown (record { 0 = l })))
   stops_at avoid test w (Check k) = not (w.quiet k) && test (cancellation w.own k)
-  stops_at avoid test w (Cancel k) = false
-  stops_at avoid test w (Start c) = false
-  stops_at avoid test w Observe = false
-  stops_at avoid test w (Work site may_fail) = may_fail && (not (w.sure site) && test (Threw (WorkFailed (record { 0 = site }))))
+  stops_at avoid test w (Work site answers) = answers.may_fail && (not (w.sure site) && test (Threw (WorkFailed (record { 0 = site }))))
   stops_at avoid test w (If i first second) = (w.possible i true && stops avoid test w first) || (w.possible i false && stops avoid test w second)
   stops_at avoid test w (When f first second) = (w.subject f && stops avoid test w first) || (another w f && stops avoid test w second)
+  stops_at avoid test w s = false
 
 -- some path ends with such a verdict
 abbrev pub may : (Statement → Bool) → (Outcome → Bool) → Known → Statements → Bool

@@ -3,7 +3,7 @@
 ghost use Rattle.std.specs.Prelude.{◌≡◌};
 ghost use Rattle.tpl_model.specs.Prelude.{statements_of};
 
-use crate::{Final, InputId, LabelId, SiteId, TaskId, TokenId};
+use crate::{Answers, Clauses, Final, InputId, LabelId, SiteId, TaskId, TokenId};
 use std::marker::Model;
 
 /// A statement of a body: what a task's delegate does, as far as other tasks can notice (Task Parallel
@@ -23,12 +23,35 @@ pub enum Stmt {
     Start(TaskId),
     /// Reads the exception of the task that this one continues.
     Observe,
-    /// A job at the site, and whether it may fail.
-    Work(SiteId, bool),
+    /// A job at the site, and what it may answer.
+    Work(SiteId, Answers),
     /// The first list where the input is true, else the second.
     If(InputId, Body, Body),
     /// The first list where the task that this one continues ended in this way, else the second.
     When(Final, Body, Body),
+    /// `await`: goes on when all of these have ended, and throws on what one of them threw.
+    Await(Vec<TaskId>),
+    /// `Wait`, `Task.WaitAll` or `Result`: the same, and what it throws is an AggregateException.
+    Wait(Vec<TaskId>),
+    /// `await Task.WhenAny`: goes on when one of these has ended, with the first list where that is the
+    /// one which is asked for, else with the second.
+    AwaitAny {
+        tasks: Vec<TaskId>,
+        won: Option<TaskId>,
+        first: Body,
+        second: Body,
+    },
+    /// `try`: its own list, and those of its clauses `catch (OperationCanceledException)`, `catch
+    /// (Exception)` and `finally`. The list of a clause that it lacks is empty.
+    Try {
+        clauses: Clauses,
+        list: Body,
+        canceled: Body,
+        caught: Body,
+        finally: Body,
+    },
+    /// `throw;`: throws what the nearest `catch` around it caught.
+    Rethrow,
 }
 
 /// A list of statements, which contracts see without where it lies in memory.

@@ -123,8 +123,8 @@ fn ends_at(statement: &Stmt, view: &View, past_observe: bool) -> Ends
         Stmt::Cancel(token) => Ends::open(!view.is_quiet(*token)),
         Stmt::Start(_) => Ends::open(true),
         Stmt::Observe => Ends::open(past_observe),
-        Stmt::Work(site, may_fail) => Ends {
-            thrown: *may_fail && !view.is_sure(*site),
+        Stmt::Work(site, answers) => Ends {
+            thrown: answers.may_fail && !view.is_sure(*site),
             ..Ends::open(true)
         },
         Stmt::If(input, first, second) => {
@@ -137,6 +137,11 @@ fn ends_at(statement: &Stmt, view: &View, past_observe: bool) -> Ends
             let otherwise = ends_of(second, view, past_observe).only_if(view.may_differ(*status));
             so.or(otherwise)
         }
+        Stmt::Await(_)
+        | Stmt::Wait(_)
+        | Stmt::AwaitAny { .. }
+        | Stmt::Try { .. }
+        | Stmt::Rethrow => Ends::open(false),
     }
 }
 

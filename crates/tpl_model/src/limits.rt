@@ -7,10 +7,16 @@ pub const MOST_TASKS: u16 = 1024;
 pub const MOST_TOKENS: usize = 32;
 
 /// The most inputs of a graph.
-pub const MOST_INPUTS: usize = 16;
+pub const MOST_INPUTS: usize = 64;
+
+/// The most inputs of a document of versions 1 to 3.
+pub const MOST_EARLY_INPUTS: usize = 16;
 
 /// The most work statements of a graph, the sites of its jobs.
-pub const MOST_SITES: usize = 256;
+pub const MOST_SITES: usize = 1024;
+
+/// The most work statements of a document of versions 1 to 3.
+pub const MOST_EARLY_SITES: usize = 256;
 
 /// The most arguments of a WhenAll or WhenAny task.
 pub const MOST_ARGUMENTS: usize = 256;
@@ -21,8 +27,14 @@ pub const MOST_STATEMENTS: u8 = 64;
 /// The most levels of a body. One without branches has one.
 pub const MOST_LEVELS: u8 = 8;
 
+/// The most `finally` lists of a body that stand in one another.
+pub const MOST_FINALLYS: u8 = 3;
+
 /// The longest name, in characters.
-pub const LONGEST_NAME: usize = 32;
+pub const LONGEST_NAME: usize = 64;
+
+/// The longest name of a document of versions 1 to 3, in characters.
+pub const LONGEST_EARLY_NAME: usize = 32;
 
 /// The most workers of a run.
 pub const MOST_WORKERS: u16 = 64;

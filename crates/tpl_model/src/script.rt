@@ -4,13 +4,20 @@ ghost use Rattle.std.specs.Prelude.{◌≡◌, ◌↔◌, IsTrue, IsOk, IfOk, If
 ghost use Rattle.tpl_model.specs.Prelude.{IsWithinLimits, statement_count};
 
 use crate::body::Body;
-use crate::extent::room_behind;
+use crate::extent::{Room, room_behind};
 use crate::same::same_body;
-use crate::{MOST_LEVELS, MOST_STATEMENTS};
+use crate::{MOST_FINALLYS, MOST_LEVELS, MOST_STATEMENTS};
 use std::marker::Model;
 
-/// A body within the limits: at most `MOST_STATEMENTS` statements, nested ones counted, and at most
-/// `MOST_LEVELS` levels (the limits are this program's own).
+/// How deep a body may nest, and how many `finally` lists of it may stand in one another.
+const LIMITS: Room = Room {
+    levels: MOST_LEVELS,
+    finallys: MOST_FINALLYS,
+};
+
+/// A body within the limits: at most `MOST_STATEMENTS` statements, nested ones counted, at most
+/// `MOST_LEVELS` levels, and at most `MOST_FINALLYS` `finally` lists in one another (the limits are this
+/// program's own).
 #[derive(Drop)]
 pub struct Script {
     body: Body,
@@ -38,7 +45,7 @@ impl Script {
         ensures ok { IfOk result (λ s. s ≡ body) }
         ensures err { IfErr result (λ b. b ≡ body) }
     {
-        if room_behind(&body, MOST_STATEMENTS, MOST_LEVELS).is_some() {
+        if room_behind(&body, MOST_STATEMENTS, LIMITS).is_some() {
             Ok(Script { body })
         } else {
             Err(body)
@@ -49,7 +56,7 @@ impl Script {
     pub fn size(&self) -> u8
         ensures { result ≡ statement_count self.now }
     {
-        match room_behind(&self.body, MOST_STATEMENTS, MOST_LEVELS) {
+        match room_behind(&self.body, MOST_STATEMENTS, LIMITS) {
             Some(left) => MOST_STATEMENTS - left,
             None => unreachable!(),
         }

@@ -70,7 +70,13 @@ fn start_at(statement: &Stmt, view: &View, child: TaskId) -> Starts
     ensures { result ≡ start_at child.0 (known view.now) (statement_of statement.now) }
 {
     match statement {
-        Stmt::Return | Stmt::Throw(_) => Starts {
+        Stmt::Return
+        | Stmt::Throw(_)
+        | Stmt::Await(_)
+        | Stmt::Wait(_)
+        | Stmt::AwaitAny { .. }
+        | Stmt::Try { .. }
+        | Stmt::Rethrow => Starts {
             goes_on: false,
             started: false,
         },
@@ -123,7 +129,13 @@ fn add_starts_at(statement: &Stmt, view: &View, found: &mut TaskSet) -> bool
         (statement_of statement.now)) }
 {
     match statement {
-        Stmt::Return | Stmt::Throw(_) => false,
+        Stmt::Return
+        | Stmt::Throw(_)
+        | Stmt::Await(_)
+        | Stmt::Wait(_)
+        | Stmt::AwaitAny { .. }
+        | Stmt::Try { .. }
+        | Stmt::Rethrow => false,
         Stmt::Check(_) | Stmt::Observe | Stmt::Work(_, _) => true,
         Stmt::Cancel(token) => !view.is_quiet(*token),
         Stmt::Start(child) => {

@@ -4,7 +4,7 @@ ghost use Rattle.std.specs.Prelude.{◌≡◌, ◌↔◌, IsTrue, Some};
 ghost use Rattle.tpl_model.specs.Prelude.{IsSeat, status_name};
 
 use crate::finals::Final;
-use crate::ids::{LabelId, SiteId, TokenId, Worker};
+use crate::ids::{LabelId, SiteId, TaskId, TokenId, Worker};
 use crate::limits::{MOST_OUTSIDE, MOST_WORKERS};
 use std::fmt;
 
@@ -58,6 +58,10 @@ pub enum Label {
     OperationCanceled(TokenId),
     /// A job failed.
     WorkFailed(SiteId),
+    /// A job was canceled, by a token that isn't one of the graph's.
+    WorkCanceled(SiteId),
+    /// The body waited for a task that is Canceled.
+    TaskCanceled(TaskId),
 }
 
 /// Who does something: a worker thread, or somebody outside with a number from 1 on.
@@ -83,5 +87,15 @@ impl Actor {
 #[derive(Clone, Copy, PartialEq, Eq, Debug)]
 pub enum Answer {
     Done,
+    /// It threw an exception.
     Failed,
+    /// It threw an OperationCanceledException that is of no token of the graph (.NET: the time-out of an HttpClient).
+    Canceled,
+}
+
+/// Which answers a job may give besides `Done`.
+#[derive(Clone, Copy, PartialEq, Eq, Debug)]
+pub struct Answers {
+    pub may_fail: bool,
+    pub may_cancel: bool,
 }
