@@ -3,6 +3,7 @@ use Rattle.std.specs.Prelude.{◌≡◌, ℕ, zero, suc, ◌+◌, ◌≤◌, ◌
 use Rattle.tpl_model.specs.declared.cursor.Level.{Level}
 use Rattle.tpl_model.specs.declared.cursor.Mark.{Mark}
 use Rattle.tpl_model.specs.declared.cursor.Mark.TheVariants as mark
+use Rattle.tpl_model.specs.declared.outcome.UnderWay.{UnderWay}
 use Rattle.tpl_model.specs.declared.outcome.UnderWay.TheVariants.{GoingOn}
 use Rattle.tpl_model.specs.declared.limits.TheConstants.{MOST_LEVELS}
 use Rattle.tpl_model.specs.Statements.{Statement, Statements, If, When, AwaitAny, Trying, Caught, Leaving, Nothing, ◌⨾◌, followed_by}
@@ -37,6 +38,11 @@ marked mark.Plain more = more
 marked (mark.Trying h) more = Trying h.clauses h.canceled.now h.caught.now h.finally.now ⨾ more
 marked (mark.Caught thrown finally) more = Caught thrown finally.now ⨾ more
 marked (mark.Leaving way) more = Leaving way ⨾ more
+
+-- what the catch caught whose list has this mark
+abbrev pub caught_by : Mark → Option UnderWay
+caught_by (mark.Caught thrown finally) = Some thrown
+caught_by m = None
 
 -- what is left of a list that is open and of what comes behind it, then what follows
 abbrev pub level_before : Option Level → Statements → Statements

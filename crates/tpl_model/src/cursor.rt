@@ -1,7 +1,7 @@
 //! What is left of a body while it runs.
 
 ghost use Rattle.std.specs.Prelude.{◌≡◌, ◌<◌, MatchOption, IfSome};
-ghost use Rattle.tpl_model.specs.Prelude.{BeginsWith, Nothing, behind, behind_choice, caught_in, chosen, level_count, levels_in, rest_at, statement_of};
+ghost use Rattle.tpl_model.specs.Prelude.{BeginsWith, Nothing, behind, behind_choice, caught_by, caught_in, chosen, level_count, levels_in, rest_at, statement_of};
 
 use crate::body::{Body, Stmt};
 use crate::clauses::Clauses;
@@ -34,6 +34,18 @@ pub(crate) enum Mark<'a> {
     Caught(UnderWay, &'a Body),
     /// It is the list of a `finally`, which goes on with this.
     Leaving(UnderWay),
+}
+
+impl Mark<'_> {
+    /// What the `catch` caught whose list has this mark.
+    fn caught(&self) -> Option<UnderWay>
+        ensures { result ≡ caught_by self.now }
+    {
+        match self {
+            Mark::Caught(thrown, _) => Some(*thrown),
+            _ => None,
+        }
+    }
 }
 
 /// What is left of a list of statements that is open, and what comes behind it.
@@ -103,7 +115,9 @@ impl<'a> Cursor<'a> {
         if self.depth == 0 {
             return None;
         }
-        self.levels[self.depth - 1].left.first()
+        let levels = &self.levels[..];
+        let level = levels[self.depth - 1];
+        level.left.first()
     }
 
     /// Passes the next statement, if one is left. What is under way behind it goes outwards to where it is
@@ -136,9 +150,11 @@ impl<'a> Cursor<'a> {
     pub fn caught(&self) -> UnderWay
         ensures { result ≡ caught_in self.now }
     {
+        let levels = &self.levels[..];
         let mut depth = self.depth;
         while depth > 0 {
-            if let Mark::Caught(thrown, _) = self.levels[depth - 1].mark {
+            let level = levels[depth - 1];
+            if let Some(thrown) = level.mark.caught() {
                 return thrown;
             }
             depth -= 1;
@@ -150,10 +166,16 @@ impl<'a> Cursor<'a> {
     fn skip(&mut self)
         ensures { self.new ≡ behind self.old }
     {
-        if self.depth > 0 {
-            let level = &mut self.levels[self.depth - 1];
-            let left = level.left;
-            level.left = left.get(1..).unwrap_or(left);
+        if self.depth == 0 {
+            return;
+        }
+        let levels = &self.levels[..];
+        let level = levels[self.depth - 1];
+        if !level.left.is_empty() {
+            self.replace(Level {
+                left: &level.left[1..],
+                mark: level.mark,
+            });
         }
     }
 
@@ -161,8 +183,17 @@ impl<'a> Cursor<'a> {
     fn open(&mut self, left: &'a [Stmt], mark: Mark<'a>)
         requires { self.old.depth < LEVELS }
     {
-        self.levels[self.depth] = Level { left, mark };
+        let levels = &mut self.levels[..];
+        levels[self.depth] = Level { left, mark };
         self.depth += 1;
+    }
+
+    /// Puts a list in the place of the innermost one.
+    fn replace(&mut self, level: Level<'a>)
+        requires { 0 < self.old.depth }
+    {
+        let levels = &mut self.levels[..];
+        levels[self.depth - 1] = level;
     }
 
     /// Goes to where the next statement stands if this is under way before what is left: enters each `try`,
@@ -172,7 +203,8 @@ impl<'a> Cursor<'a> {
     {
         let mut way = way;
         while self.depth > 0 {
-            let level = self.levels[self.depth - 1];
+            let levels = &self.levels[..];
+            let level = levels[self.depth - 1];
             match level.left.first() {
                 Some(Stmt::Try {
                     clauses,
@@ -215,7 +247,7 @@ impl<'a> Cursor<'a> {
         };
         match next {
             Some(level) => {
-                self.levels[self.depth - 1] = level;
+                self.replace(level);
                 UnderWay::GoingOn
             }
             None => {
