@@ -19,7 +19,21 @@ fn statement_asks_for(statement: &Stmt, input: InputId) -> bool {
         Stmt::If(asked, first, second) => {
             *asked == input || asks_for(first, input) || asks_for(second, input)
         }
-        Stmt::When(_, first, second) => asks_for(first, input) || asks_for(second, input),
+        Stmt::When(_, first, second) | Stmt::AwaitAny { first, second, .. } => {
+            asks_for(first, input) || asks_for(second, input)
+        }
+        Stmt::Try {
+            clauses: _,
+            list,
+            canceled,
+            caught,
+            finally,
+        } => {
+            asks_for(list, input)
+                || asks_for(canceled, input)
+                || asks_for(caught, input)
+                || asks_for(finally, input)
+        }
         _ => false,
     }
 }

@@ -4,7 +4,7 @@ use Rattle.tpl_model.specs.Graph.{TaskGraph, is_token}
 use Rattle.tpl_model.specs.declared.event.Event.{Event}
 use Rattle.tpl_model.specs.declared.event.Act.{Act}
 use Rattle.tpl_model.specs.declared.event.Act.TheVariants.{Request, Step, Worked}
-use Rattle.tpl_model.specs.declared.status.Answer.TheVariants.{Failed}
+use Rattle.tpl_model.specs.declared.status.Answer.TheVariants.{Failed, Canceled}
 use Rattle.tpl_model.specs.Valid.{all_sites}
 use Rattle.tpl_model.specs.Facts.{requested, failed}
 use Rattle.tpl_laws.specs.RunTests.{is_complete}
@@ -31,6 +31,7 @@ noted_after act noted now place = if may_request act then or_now noted now place
 -- the act may be one by which a job fails
 abbrev pub may_fail : Act → Bool
 may_fail (Worked t Failed) = true
+may_fail (Worked t Canceled) = true
 may_fail act = false
 
 -- what is noted of a job after an act: an act by which no job fails leaves each as it was

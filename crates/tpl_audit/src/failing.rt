@@ -7,6 +7,7 @@ ghost use Rattle.tpl_laws.specs.Failing as law;
 ghost use Rattle.tpl_model.specs.declared.event.Event.{Event};
 
 use crate::claims::fails_from;
+use crate::run::unbegun_from;
 use crate::verdict::Failure;
 use crate::watch::Watch;
 use tpl_graph::Claim;
@@ -38,6 +39,8 @@ fn is_broken<C: Core>(core: &C, watch: &Watch, given: &[Given], place: usize) ->
                 is_at(fails_from(core, None, Property::Final(*task, *ends)), place)
             }
             Given::Succeeds(site) => is_at(watch.failed[site.0 as usize], place),
+            Given::Begins(task) => is_at(unbegun_from(core, *task), place),
+            Given::Never(task) => is_at(fails_from(core, None, Property::Never(*task)), place),
         };
         if broken {
             return true;

@@ -17,6 +17,8 @@ struct Noted {
     last: Vec<u32>,
     /// For each child the event that started it.
     started: Vec<u32>,
+    /// For each task the last end of those that its body awaits now.
+    awaited: Vec<u32>,
     /// For each token the event by which it was requested.
     asked: [u32; MOST_TOKENS],
 }
@@ -135,6 +137,7 @@ impl Noted {
             causes: Vec::new(alloc),
             last: zeros(alloc, graph.len())?,
             started: zeros(alloc, graph.len())?,
+            awaited: zeros(alloc, graph.len())?,
             asked: [0; MOST_TOKENS],
         })
     }
@@ -174,6 +177,33 @@ impl Noted {
         }
     }
 
+    /// What led to it that a body went on: the end of the winner, or the last end of the tasks that it awaited, if that
+    /// came behind its event before.
+    fn resume_cause<C: Core>(
+        &self,
+        core: &C,
+        task: TaskId,
+        winner: Option<TaskId>,
+        before: u32,
+    ) -> u32 {
+        let end = match winner {
+            Some(winner) => end_place(core, winner),
+            None => at(&self.awaited, task.0 as usize),
+        };
+        before.max(end)
+    }
+
+    /// Notes the last end of those that the task's body awaits, where it may go on behind them.
+    fn note_awaited<C: Core>(&mut self, core: &C, act: Act) {
+        let Act::Resume(task, None) = act else {
+            return;
+        };
+        let number = task.0 as usize;
+        if number < self.awaited.len() && number < core.graph().len() {
+            self.awaited[number] = last_ended(core, core.awaited(task));
+        }
+    }
+
     /// What led to the last act, which is of this task.
     fn cause_of<C: Core>(&self, core: &C, act: Act, task: TaskId) -> u32 {
         let before = at(&self.last, task.0 as usize);
@@ -184,6 +214,7 @@ impl Noted {
             Act::Close(_) => close_cause(core, task),
             Act::Drop(_) => self.drop_cause(core, task),
             Act::Settle(_) => settle_cause(core, task),
+            Act::Resume(_, winner) => self.resume_cause(core, task, winner, before),
             Act::Request(_) | Act::Step(_) | Act::Worked(_, _) => before,
         }
     }
@@ -248,6 +279,7 @@ fn causes_of<C: Core>(
     let mut place: u32 = 0;
     for event in events {
         place = place.saturating_add(1);
+        noted.note_awaited(core, event.act);
         if core.step(*event).is_err() {
             return Ok(noted.causes);
         }
@@ -259,7 +291,7 @@ fn causes_of<C: Core>(
 /// A job has failed by the act.
 fn is_failure(act: Act) -> bool {
     match act {
-        Act::Worked(_, Answer::Failed) => true,
+        Act::Worked(_, Answer::Failed | Answer::Canceled) => true,
         _ => false,
     }
 }

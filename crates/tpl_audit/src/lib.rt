@@ -25,6 +25,5 @@ mod watch;
 pub use auditing::audit;
 pub use claims::{holds, is_true_of};
 pub use leading::causes;
-pub use run::has_failed;
 pub use standing::statuses_after;
 pub use verdict::{Failure, OtherEnd, Verdict};

@@ -3,9 +3,10 @@
 ghost use Rattle.std.specs.Prelude.{◌≡◌, ◌↔◌, ◌<◌, ◌⊎◌, IsTrue, IfSome, IfNone, ℕ, true, false, is_some, length, [], ◌∷◌};
 ghost use Rattle.tpl_graph.specs.Prelude.{AreGivenOf, IsGivenOf};
 ghost use Rattle.tpl_laws.specs.Prelude.{SettledBefore};
+ghost use Rattle.tpl_laws.specs.Failing.{settled_from, unbegun_from};
 ghost use Rattle.tpl_model.specs.Prelude.{Ending, HoldsOf, IsGiven, IsParent, SettledAtBegin, all_sites, begun, ending, failed, is_task, started};
 
-use tpl_model::{Finals, Given, Label, Property, SiteId, Status, TaskId};
+use tpl_model::{Finals, Given, Property, Status, TaskId};
 use tpl_run::Core;
 
 fn is_given<C: Core>(core: &C, given: Given) -> bool
@@ -17,22 +18,9 @@ fn is_given<C: Core>(core: &C, given: Given) -> bool
         Given::Input(input, value) => core.input(input) == value,
         Given::Quiet(token) => !core.requested(token),
         Given::Ended(task, ends) => ends_within(core, task, ends),
-        Given::Succeeds(site) => !has_failed(core, site),
-    }
-}
-
-/// Whether the job of a site has failed, which is what the task threw in whose body it stands.
-pub fn has_failed<C: Core>(core: &C, site: SiteId) -> bool
-    requires { site.0 < length (all_sites (C.journal core.now).graph) }
-    ensures { let j = C.journal core.now in result ≡ failed j.graph j.inputs j.events site.0 }
-{
-    core.run_law();
-    tpl_laws::failed_by_its_label();
-    let graph = core.graph();
-    graph.valid_law();
-    match core.label(graph.site_owner(site)) {
-        Some(Label::WorkFailed(failed)) => failed.0 == site.0,
-        _ => false,
+        Given::Succeeds(site) => !core.failed(site),
+        Given::Begins(task) => unbegun_from(core, task).is_none(),
+        Given::Never(task) => !has_begun(core, task),
     }
 }
 
@@ -94,6 +82,36 @@ fn never_started_by<C: Core>(core: &C, task: TaskId) -> Option<TaskId>
         None
     } else {
         core.graph().parent_of(task)
+    }
+}
+
+/// The place from which a task is settled, if it is.
+fn settled_from<C: Core>(core: &C, task: TaskId) -> Option<usize>
+    requires { is_task (C.journal core.now).graph task.0 }
+    ensures { let j = C.journal core.now in
+        result ≡ settled_from j.graph j.inputs j.events task.0 }
+{
+    core.run_law();
+    let mut at = task;
+    while core.ended(at).is_none() {
+        at = never_started_by(core, at)?;
+    }
+    match core.ended(at) {
+        Some(place) => Some(place as usize),
+        None => None,
+    }
+}
+
+/// The place from which a task is settled and hasn't begun, if there is one.
+pub(crate) fn unbegun_from<C: Core>(core: &C, task: TaskId) -> Option<usize>
+    requires { is_task (C.journal core.now).graph task.0 }
+    ensures { let j = C.journal core.now in
+        result ≡ unbegun_from j.graph j.inputs j.events task.0 }
+{
+    if has_begun(core, task) {
+        None
+    } else {
+        settled_from(core, task)
     }
 }
 

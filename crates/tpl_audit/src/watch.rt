@@ -5,7 +5,6 @@ ghost use Rattle.tpl_audit.specs.Prelude.{IsWatched, failure_noted_after, may_fa
 ghost use Rattle.tpl_laws.specs.Prelude.{is_complete, or_now};
 ghost use Rattle.tpl_model.specs.Prelude.{all_sites, failed, is_token, requested};
 
-use crate::has_failed;
 use tpl_machine::Core;
 use tpl_model::{Act, Answer, MOST_SITES, MOST_TOKENS, SiteId, TokenId};
 
@@ -44,7 +43,7 @@ fn may_fail(act: Act) -> bool
     ensures { result ≡ may_fail act }
 {
     match act {
-        Act::Worked(_, Answer::Failed) => true,
+        Act::Worked(_, Answer::Failed | Answer::Canceled) => true,
         _ => false,
     }
 }
@@ -59,7 +58,7 @@ fn note_failures<C: Core>(noted: &mut [Option<usize>; MOST_SITES], core: &C, pla
     let graph = core.graph();
     graph.valid_law();
     for i in 0..graph.site_count() {
-        if noted[i].is_none() && has_failed(core, SiteId(i as u16)) {
+        if noted[i].is_none() && core.failed(SiteId(i as u16)) {
             noted[i] = Some(place);
         }
     }

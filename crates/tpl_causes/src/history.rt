@@ -100,7 +100,20 @@ fn worked_words<C: Core>(alloc: Global, run: &C, task: TaskId, answer: Answer) -
                 format!(in alloc; "the job {site} of {label} fails")
             }
         (Answer::Failed, _) => format!(in alloc; "a job of {label} fails"),
+        (Answer::Canceled, _) => format!(in alloc; "a job of {label} is canceled"),
         (Answer::Done, _) => format!(in alloc; "a job of {label} is done"),
+    }
+}
+
+/// That a body goes on behind tasks that it awaited, and which of them won, if it awaited any.
+fn resume_words(alloc: Global, graph: &Graph, task: TaskId, winner: Option<TaskId>) -> Said {
+    let label = name(graph, task);
+    match winner {
+        Some(winner) => {
+            let winner = name(graph, winner);
+            format!(in alloc; "{label} goes on, as {winner} has ended")
+        }
+        None => format!(in alloc; "{label} goes on behind what it awaited"),
     }
 }
 
@@ -215,6 +228,7 @@ pub(crate) fn event_words<C: Core>(alloc: Global, run: &C, act: Act, next: Act) 
         }
         Act::Step(task) => step_words(alloc, run, task, next),
         Act::Worked(task, answer) => worked_words(alloc, run, task, answer),
+        Act::Resume(task, winner) => resume_words(alloc, graph, task, winner),
         Act::Leave(task) => leave_words(alloc, run, task),
         Act::Drop(task) => drop_words(alloc, run, task),
         Act::Settle(task) => settle_words(alloc, run, task),

@@ -6,7 +6,7 @@ use Rattle.tpl_model.specs.declared.ids.TokenId.{TokenId}
 use Rattle.tpl_model.specs.declared.view.Possible.{Possible}
 use Rattle.tpl_model.specs.View.{may_have}
 use Rattle.tpl_model.specs.declared.claim.Given.{Given}
-use Rattle.tpl_model.specs.declared.claim.Given.TheVariants.{Input, Quiet, Ended, Succeeds}
+use Rattle.tpl_model.specs.declared.claim.Given.TheVariants.{Input, Quiet, Ended, Succeeds, Begins, Never}
 use Rattle.tpl_model.specs.Certificate.{Assumed, with_input}
 use Rattle.tpl_checker.specs.declared.assumptions.Assumptions.{Assumptions}
 use Rattle.tpl_checker.specs.Left.{left_by}
@@ -69,6 +69,8 @@ with_given l (Input i value) = with_input l i.0 value
 with_given l (Quiet k) = with_quiet l k.0
 with_given l (Ended t ends) = with_ended l t.0 ends
 with_given l (Succeeds site) = with_sure l site.0
+with_given l (Begins t) = l
+with_given l (Never t) = l
 
 -- each of the tokens is one of the first n
 abbrev pub AllTokens : ℕ → List TokenId → Type 0

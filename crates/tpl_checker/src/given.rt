@@ -109,6 +109,7 @@ fn with_given(graph: &Graph, assumed: &Assumptions, one: Given) -> Assumptions
         Given::Quiet(token) => assumed.with_quiet(token),
         Given::Ended(task, ends) => assumed.with_ended(task, ends),
         Given::Succeeds(site) => assumed.with_sure(site),
+        Given::Begins(_) | Given::Never(_) => assumed.copy(),
     }
 }
 

@@ -1,4 +1,4 @@
-//! Trees that fit their graph: they are plain, each leaf has one row for each task, and each id is the graph's.
+//! Trees that fit their graph: it is one for these rules, they are plain, each leaf has one row for each task, and each id is the graph's.
 
 ghost use Rattle.std.specs.Prelude.{◌≡◌, ◌&&◌, ℕ, length, map, nat_lt};
 ghost use Rattle.tpl_draft.specs.Prelude.{task_number};
@@ -10,7 +10,7 @@ use tpl_graph::{Claim, Graph};
 use tpl_model::{CertFault, TaskId, TaskSet};
 use tpl_trees::{Node, PlainRow, Row, Tree};
 
-/// The tree is plain, each of its leaves has one row for each task, and each id in it is the graph's.
+/// The graph is one for these rules, the tree is plain, each of its leaves has one row for each task, and each id in it is the graph's.
 pub(crate) fn fits(graph: &Graph, tree: &Tree) -> bool
     ensures { result ≡ fits graph.now.graph tree.now }
 {
@@ -27,7 +27,10 @@ pub(crate) fn fits(graph: &Graph, tree: &Tree) -> bool
                 && fits(graph, faulted)
         }
         Node::Leaf(rows) => {
-            rows.len() == graph.len() && rows_fit(graph, rows) && are_plain(rows)
+            rows.len() == graph.len()
+                && rows_fit(graph, rows)
+                && are_plain(rows)
+                && graph.is_early()
         }
         Node::SplitWinner(..) | Node::Least => false,
     }

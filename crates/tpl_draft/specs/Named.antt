@@ -1,6 +1,7 @@
 -- A task graph with its names, and what its readers answer.
-use Rattle.std.specs.Prelude.{ℕ, suc, zero, ◌++◌, Bool, Option, Some, None, List, [], ◌∷◌, flat_map}
-use Rattle.tpl_model.specs.Statements.{Statement, Statements, Nothing, ◌⨾◌, Work, If, When}
+use Rattle.std.specs.Prelude.{ℕ, suc, zero, ◌++◌, Bool, Option, Some, None, List, [], ◌∷◌, flat_map, map}
+use Rattle.tpl_model.specs.declared.status.Answers.{Answers}
+use Rattle.tpl_model.specs.Statements.{Statement, Statements, Nothing, ◌⨾◌, Work, If, When, AwaitAny, Try, Trying, Caught}
 use Rattle.tpl_model.specs.Graph.{TaskGraph, TaskKind, Continues, WhenAll, WhenAny}
 
 -- the names of a graph as bytes, each list in the order of its numbers
@@ -27,21 +28,32 @@ args_of (WhenAll args) = args
 args_of (WhenAny args) = args
 args_of kind = []
 
--- whether the jobs of a body may fail, in the order of its text
+-- what the jobs of a body may answer, in the order of its text
 abbrev mutual
-  pub may_fails : Statements → List Bool
-  may_fails Nothing = []
-  may_fails (s ⨾ rest) = may_fails_of s ++ may_fails rest
+  pub answers_in : Statements → List Answers
+  answers_in Nothing = []
+  answers_in (s ⨾ rest) = answers_of s ++ answers_in rest
 
-  pub may_fails_of : Statement → List Bool
-  may_fails_of (Work site may_fail) = may_fail ∷ []
-  may_fails_of (If i first second) = may_fails first ++ may_fails second
-  may_fails_of (When f first second) = may_fails first ++ may_fails second
-  may_fails_of s = []
+  pub answers_of : Statement → List Answers
+  answers_of (Work site answers) = answers ∷ []
+  answers_of (If i first second) = answers_in first ++ answers_in second
+  answers_of (When f first second) = answers_in first ++ answers_in second
+  answers_of (AwaitAny xs won first second) = answers_in first ++ answers_in second
+  answers_of (Try c list canceled caught finally) = answers_in list ++ answers_in canceled ++ answers_in caught ++ answers_in finally
+  answers_of (Trying c canceled caught finally) = answers_in canceled ++ answers_in caught ++ answers_in finally
+  answers_of (Caught thrown finally) = answers_in finally
+  answers_of s = []
 
--- whether the jobs of a graph may fail, in the order of the sites
+-- what the jobs of a graph may answer, in the order of the sites
+abbrev pub all_answers : TaskGraph → List Answers
+all_answers g = flat_map (λ t. answers_in t.body) g.tasks
+
+-- whether the jobs of a graph may fail, and whether they may be canceled
 abbrev pub all_may_fail : TaskGraph → List Bool
-all_may_fail g = flat_map (λ t. may_fails t.body) g.tasks
+all_may_fail g = map (λ (a : Answers). a.may_fail) (all_answers g)
+
+abbrev pub all_may_cancel : TaskGraph → List Bool
+all_may_cancel g = map (λ (a : Answers). a.may_cancel) (all_answers g)
 
 -- this many numbers, from n on
 abbrev pub numbers_from : ℕ → ℕ → List ℕ

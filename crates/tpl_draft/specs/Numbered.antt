@@ -1,5 +1,5 @@
 -- What a draft spells: the graph in which each name is its number in declared order.
-use Rattle.std.specs.Prelude.{ℕ, ◌≤◌, List, [], ◌∷◌, Option, Some, None, map, flat_map, length}
+use Rattle.std.specs.Prelude.{ℕ, ◌≤◌, false, List, [], ◌∷◌, Option, Some, None, map, flat_map, length}
 use Rattle.tpl_model.specs.declared.limits.TheConstants.{MOST_INPUTS, MOST_SITES, MOST_TASKS, MOST_TOKENS}
 use Rattle.std.specs.Option.{option_map}
 use Rattle.tpl_model.specs.Statements.{Statement, Statements}
@@ -24,7 +24,7 @@ abbrev mutual
   statement_in n (Cancel k) = script.Cancel (place n.tokens k)
   statement_in n (Start c) = script.Start (place n.tasks c)
   statement_in n Observe = script.Observe
-  statement_in n (Work s may_fail) = script.Work (place n.sites s) may_fail
+  statement_in n (Work s may_fail) = script.Work (place n.sites s) (record { may_fail = may_fail; may_cancel = false })
   statement_in n (If i a b) = script.If (place n.inputs i) (script_in n a) (script_in n b)
   statement_in n (When f a b) = script.When f (script_in n a) (script_in n b)
 
@@ -77,6 +77,7 @@ task_in n t = record {
   body = script_in n (worked t.kind).body;
   token = option_map (place n.tokens) (worked t.kind).token;
   options = (worked t.kind).options;
+  is_async = false;
 }
 
 -- a token, by the tokens to which it is linked, if it is

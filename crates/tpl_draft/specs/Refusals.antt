@@ -1,7 +1,7 @@
 -- Why a draft spells no graph: each refusal, where it applies, and which one is answered.
 use Rattle.std.specs.Prelude.{◌≡◌, ℕ, suc, zero, ◌<◌, ◌⊎◌, ◌&&◌, ◌||◌, Bool, true, false, not, ◌==◌, List, [], ◌∷◌, ◌++◌, Option, Some, None, map, length, take, slice_get, nat_eq, nat_lt, nat_le, is_some, sum_by, if◌then◌else◌}
 use Rattle.std.specs.List.{list_any, list_all}
-use Rattle.tpl_model.specs.declared.limits.TheConstants.{LONGEST_NAME, MOST_ARGUMENTS, MOST_INPUTS, MOST_LEVELS, MOST_SITES, MOST_STATEMENTS, MOST_TASKS, MOST_TOKENS}
+use Rattle.tpl_model.specs.declared.limits.TheConstants.{LONGEST_EARLY_NAME, MOST_ARGUMENTS, MOST_EARLY_INPUTS, MOST_LEVELS, MOST_EARLY_SITES, MOST_STATEMENTS, MOST_TASKS, MOST_TOKENS}
 use Rattle.tpl_model.specs.Options.{has_bits, excludes_all, long_and_sync}
 use Rattle.tpl_model.specs.Statements.{starts}
 use Rattle.tpl_model.specs.Graph as graph
@@ -30,7 +30,7 @@ begins_with_digit (c ∷ cs) = is_digit c
 
 -- letters, digits or `_`, at least one and not too many, not beginning with a digit
 abbrev pub is_name : List ℕ → Bool
-is_name t = ((nat_lt 0 (length t) && nat_le (length t) LONGEST_NAME) && list_all is_word t) && not (begins_with_digit t)
+is_name t = ((nat_lt 0 (length t) && nat_le (length t) LONGEST_EARLY_NAME) && list_all is_word t) && not (begins_with_digit t)
 
 -- the text is no name
 abbrev pub is_bad_name : List ℕ → Bool
@@ -152,7 +152,7 @@ site_total tasks = sum_by (λ (x : Task). site_count (worked x.kind).body) tasks
 
 -- a refusal applies to the lists of inputs and tokens
 abbrev pub in_lists : Draft → Why → Bool
-in_lists d why.TooMany = (nat_lt MOST_INPUTS (length d.inputs) || nat_lt MOST_TOKENS (length d.tokens)) || list_any (λ (k : Token). nat_lt MOST_TOKENS (length (linked_to k.linked))) d.tokens
+in_lists d why.TooMany = (nat_lt MOST_EARLY_INPUTS (length d.inputs) || nat_lt MOST_TOKENS (length d.tokens)) || list_any (λ (k : Token). nat_lt MOST_TOKENS (length (linked_to k.linked))) d.tokens
 in_lists d why.BadName = list_any is_bad_name (names_of d).inputs || list_any is_bad_name (names_of d).tokens
 in_lists d why.NameTwice = some_twice (names_of d).inputs || some_twice (names_of d).tokens
 in_lists d why.Unknown = list_any (λ (k : Token). list_any (lacks (names_of d).tokens) (linked_to k.linked)) d.tokens
@@ -161,7 +161,7 @@ in_lists d w = false
 
 -- a refusal applies to the t-th task
 abbrev pub in_task : Draft → Why → ℕ → Task → Bool
-in_task d why.TooMany t x = exceeds t x || nat_lt MOST_SITES (site_total (take (suc t) d.tasks))
+in_task d why.TooMany t x = exceeds t x || nat_lt MOST_EARLY_SITES (site_total (take (suc t) d.tasks))
 in_task d why.BadName t x = is_bad_name x.name || list_any says_bad_name (statements_in x)
 in_task d why.NameTwice t x = has_name (take t (names_of d).tasks) x.name
 in_task d why.Unknown t x =

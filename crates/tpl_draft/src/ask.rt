@@ -7,7 +7,7 @@ ghost use Rattle.tpl_draft.specs.Refusals as spec;
 
 use crate::draft::{DraftBody, DraftKind, DraftStmt, DraftTask};
 use crate::names::Names;
-use tpl_model::LONGEST_NAME;
+use tpl_model::LONGEST_EARLY_NAME;
 
 /// The names that a draft declares.
 #[derive(Drop)]
@@ -42,7 +42,7 @@ pub fn is_name(name: &str) -> bool
     ensures { result ≡ spec.is_name name.now }
 {
     let bytes = name.as_bytes();
-    if bytes.len() == 0 || bytes.len() > LONGEST_NAME {
+    if bytes.len() == 0 || bytes.len() > LONGEST_EARLY_NAME {
         return false;
     }
     for c in bytes {

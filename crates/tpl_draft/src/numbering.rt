@@ -7,7 +7,7 @@ ghost use Rattle.tpl_model.specs.Prelude.{statement_of};
 use crate::draft::{DraftBody, DraftStmt};
 use crate::names::Tables;
 use std::alloc::{AllocError, Global};
-use tpl_model::{Body, InputId, LabelId, SiteId, Stmt, TaskId, TokenId};
+use tpl_model::{Answers, Body, InputId, LabelId, SiteId, Stmt, TaskId, TokenId};
 
 /// The task of a name.
 pub fn task_id(tables: &Tables, name: &str) -> TaskId
@@ -77,7 +77,11 @@ fn number_statement(
         DraftStmt::Start(task) => Ok(Stmt::Start(task_id(tables, task.as_str()))),
         DraftStmt::Observe => Ok(Stmt::Observe),
         DraftStmt::Work(site, may_fail) => {
-            Ok(Stmt::Work(site_id(tables, site.as_str()), *may_fail))
+            let answers = Answers {
+                may_fail: *may_fail,
+                may_cancel: false,
+            };
+            Ok(Stmt::Work(site_id(tables, site.as_str()), answers))
         }
         DraftStmt::If(input, yes, no) => {
             let yes = number_body(alloc, tables, yes)?;

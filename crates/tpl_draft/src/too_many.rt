@@ -12,7 +12,7 @@ use crate::draft::{Draft, DraftKind, DraftTask, DraftToken};
 use crate::limits::{Room, room_behind};
 use crate::refusals::{linked_to, waits_for};
 use tpl_model::{
-    MOST_ARGUMENTS, MOST_INPUTS, MOST_LEVELS, MOST_SITES, MOST_STATEMENTS, MOST_TASKS, MOST_TOKENS,
+    MOST_ARGUMENTS, MOST_EARLY_INPUTS, MOST_LEVELS, MOST_EARLY_SITES, MOST_STATEMENTS, MOST_TASKS, MOST_TOKENS,
 };
 
 fn linked_to_many(token: &DraftToken) -> bool
@@ -37,10 +37,10 @@ fn sources_exceed(draft: &Draft) -> bool
 }
 
 fn counts_exceed(draft: &Draft) -> bool
-    ensures { result ≡ (nat_lt MOST_INPUTS (length (draft_of draft.now).inputs)
+    ensures { result ≡ (nat_lt MOST_EARLY_INPUTS (length (draft_of draft.now).inputs)
         || nat_lt MOST_TOKENS (length (draft_of draft.now).tokens)) }
 {
-    draft.inputs.len() > MOST_INPUTS || draft.tokens.len() > MOST_TOKENS
+    draft.inputs.len() > MOST_EARLY_INPUTS || draft.tokens.len() > MOST_TOKENS
 }
 
 /// There are too many inputs, tokens, or sources of a token.
@@ -97,7 +97,7 @@ pub fn first_too_many(draft: &Draft) -> Option<usize>
     if lists_exceed(draft) {
         return Some(0);
     }
-    let mut sites = MOST_SITES as u16;
+    let mut sites = MOST_EARLY_SITES as u16;
     for (t, task) in draft.tasks.iter().enumerate() {
         match sites_behind(t, task, sites) {
             Some(left) => sites = left,

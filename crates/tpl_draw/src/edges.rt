@@ -76,7 +76,19 @@ fn add_act(found: &mut Vec<Edge>, task: TaskId, statement: &Stmt) -> Result<(), 
         Stmt::Start(child) => add_edge(found, Tie::Child, task.0, child.0),
         Stmt::Cancel(token) => add_edge(found, Tie::Cancel, task.0, u16::from(token.0)),
         Stmt::If(_, first, second) => add_both(found, task, first, second),
-        Stmt::When(_, first, second) => add_both(found, task, first, second),
+        Stmt::When(_, first, second) | Stmt::AwaitAny { first, second, .. } => {
+            add_both(found, task, first, second)
+        }
+        Stmt::Try {
+            clauses: _,
+            list,
+            canceled,
+            caught,
+            finally,
+        } => {
+            add_both(found, task, list, canceled)?;
+            add_both(found, task, caught, finally)
+        }
         _ => Ok(()),
     }
 }

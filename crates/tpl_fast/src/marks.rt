@@ -7,11 +7,13 @@ ghost use Rattle.tpl_fast.specs.Marks.{acting, noted, AreMarks};
 use std::alloc::{AllocError, Global};
 use tpl_model::{Act, Actor, Event, TaskId};
 
-/// Who began a task and at which place, counted from 1; and whether it was released, and left by its worker.
+/// Who began a task and at which place, counted from 1; who is the worker of its body; and whether it was released, and
+/// left by its worker.
 #[derive(Clone, Copy, PartialEq, Eq, Debug)]
 pub(crate) struct Mark {
     pub begun: Option<Actor>,
     pub began: Option<u32>,
+    pub runner: Option<Actor>,
     pub released: bool,
     pub left: bool,
 }
@@ -26,7 +28,9 @@ impl Mark {
             Act::Begin(_) => {
                 self.begun = Some(event.actor);
                 self.began = Some(place);
+                self.runner = Some(event.actor);
             }
+            Act::Resume(_, _) => self.runner = Some(event.actor),
             Act::Leave(_) => self.left = true,
             _ => {}
         }
@@ -42,6 +46,7 @@ pub(crate) fn unmarked(alloc: Global, count: usize) -> Result<Vec<Mark>, AllocEr
         marks.push_reserved(Mark {
             begun: None,
             began: None,
+            runner: None,
             released: false,
             left: false,
         });
@@ -59,6 +64,7 @@ pub fn task_of(act: Act) -> Option<TaskId>
         Act::Begin(task) => Some(task),
         Act::Step(task) => Some(task),
         Act::Worked(task, _) => Some(task),
+        Act::Resume(task, _) => Some(task),
         Act::Leave(task) => Some(task),
         Act::Close(task) => Some(task),
         Act::Drop(task) => Some(task),

@@ -1,6 +1,6 @@
 -- A graph with its names as a tree of numbers, from which it can be read again.
-use Rattle.std.specs.Prelude.{◌≡◌, ℕ, zero, suc, List, [], ◌∷◌, Option, Some, None, refl}
-use Rattle.std.specs.Coded.{Coded, code_by, coded×, coded_ℕ, coded_list, coded_option}
+use Rattle.std.specs.Prelude.{◌≡◌, ℕ, zero, suc, Bool, List, [], ◌∷◌, Option, Some, None, refl}
+use Rattle.std.specs.Coded.{Coded, code_by, coded×, coded_ℕ, coded_bool, coded_list, coded_option}
 use Rattle.tpl_model.specs.Statements.{Statements}
 use Rattle.tpl_model.specs.Coding.{statements_code}
 use Rattle.tpl_model.specs.Graph.{TaskGraph, Task, TaskKind, Root, Child, Continues, WhenAll, WhenAny, Token, Plain, Linked}
@@ -36,10 +36,10 @@ kind_code = code_by (ℕ × List ℕ) (coded× coded_ℕ (coded_list coded_ℕ))
 
 abbrev pub task_code : Coded Task
 task_code =
-    code_by (TaskKind × (Statements × (Option ℕ × ℕ)))
-    (coded× kind_code (coded× statements_code (coded× (coded_option coded_ℕ) coded_ℕ)))
-    (λ t. (t.kind, (t.body, (t.token, t.options))))
-    (λ p. record { kind = p.0; body = p.1.0; token = p.1.1.0; options = p.1.1.1 })
+    code_by (TaskKind × (Statements × (Option ℕ × (ℕ × Bool))))
+    (coded× kind_code (coded× statements_code (coded× (coded_option coded_ℕ) (coded× coded_ℕ coded_bool))))
+    (λ t. (t.kind, (t.body, (t.token, (t.options, t.is_async)))))
+    (λ p. record { kind = p.0; body = p.1.0; token = p.1.1.0; options = p.1.1.1.0; is_async = p.1.1.1.1 })
     (λ _. refl)
 
 abbrev pub linked_to : Token → Option (List ℕ)

@@ -2,19 +2,21 @@
 use Rattle.std.specs.Prelude.{◌≡◌, ◌<◌, length, ◌++◌, ◌||◌, Bool, true, false, List, [], ◌∷◌, nat_eq, All}
 use Rattle.std.specs.List.{list_all, list_any}
 use Rattle.tpl_model.specs.declared.claim.Given.{Given}
-use Rattle.tpl_model.specs.declared.claim.Given.TheVariants.{Input, Quiet, Ended, Succeeds}
+use Rattle.tpl_model.specs.declared.claim.Given.TheVariants.{Input, Quiet, Ended, Succeeds, Begins, Never}
 use Rattle.tpl_model.specs.declared.ids.TaskId.{TaskId}
 use Rattle.tpl_model.specs.declared.claim.Property.{Property}
 use Rattle.tpl_model.specs.Graph.{TaskGraph, TaskKind, WhenAll, WhenAny, kind, is_task, is_token}
 use Rattle.tpl_model.specs.Valid.{all_sites}
 use Rattle.tpl_model.specs.Claims.{AreAll, Claim, bodied_tasks, named_tasks}
 
--- the input, token or task is the graph's, and so is the site: sites are numbered in the order of the text
+-- the input, token or task is the graph's, a task that begins or never does has a body, and so is the site: sites are numbered in the order of the text
 abbrev pub IsGivenOf : TaskGraph → Given → Type 0
 IsGivenOf g (Input i value) = i.0 < g.inputs
 IsGivenOf g (Quiet k) = is_token g k.0
 IsGivenOf g (Ended t ends) = is_task g t.0
 IsGivenOf g (Succeeds site) = site.0 < length (all_sites g)
+IsGivenOf g (Begins t) = is_task g t.0 × (has_body (kind g t.0) ≡ true)
+IsGivenOf g (Never t) = is_task g t.0 × (has_body (kind g t.0) ≡ true)
 
 -- each input, token, task and site that is given is the graph's
 abbrev pub AreGivenOf : TaskGraph → List Given → Type 0
@@ -26,6 +28,10 @@ is_of_one_thing (Input i value) (Input j other) = nat_eq i.0 j.0
 is_of_one_thing (Quiet k) (Quiet j) = nat_eq k.0 j.0
 is_of_one_thing (Ended t ends) (Ended s other) = nat_eq t.0 s.0
 is_of_one_thing (Succeeds i) (Succeeds j) = nat_eq i.0 j.0
+is_of_one_thing (Begins t) (Begins s) = nat_eq t.0 s.0
+is_of_one_thing (Begins t) (Never s) = nat_eq t.0 s.0
+is_of_one_thing (Never t) (Begins s) = nat_eq t.0 s.0
+is_of_one_thing (Never t) (Never s) = nat_eq t.0 s.0
 is_of_one_thing one other = false
 
 -- one of these is given again, after those before

@@ -29,7 +29,7 @@ role_of (role.Any args) = graph.WhenAny (map task_number args.items)
 
 -- a task in memory, without where it lies
 abbrev pub task_of : Row → graph.Task
-task_of r = record { kind = role_of r.role; body = r.script; token = option_map token_number r.token; options = r.options }
+task_of r = record { kind = role_of r.role; body = r.script; token = option_map token_number r.token; options = r.options; is_async = r.is_async }
 
 -- the graph of these rows
 abbrev pub graph_of : List Origin → ℕ → List Row → graph.TaskGraph

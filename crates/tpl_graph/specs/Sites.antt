@@ -1,9 +1,9 @@
--- The sites of a graph: whose body has each, and whether its job may fail.
+-- The sites of a graph: whose body has each, and what its job may answer.
 use Rattle.std.specs.Prelude.{◌≡◌, ◌⊎◌, ℕ, suc, ◌++◌, Bool, List, [], ◌∷◌, map}
-use Rattle.tpl_model.specs.Statements.{Statement, Statements, Nothing, ◌⨾◌, Work, If, When, sites}
+use Rattle.tpl_model.specs.Statements.{Statement, Statements, Nothing, ◌⨾◌, Work, If, When, AwaitAny, Try, Trying, Caught, sites}
 use Rattle.tpl_model.specs.Graph.{TaskGraph, Task}
 use Rattle.tpl_graph.specs.declared.row.Site.{Site}
-use Rattle.tpl_draft.specs.Named.{all_may_fail}
+use Rattle.tpl_draft.specs.Named.{all_may_fail, all_may_cancel}
 
 -- the task of each site of tasks numbered from n on, in the order of the text
 abbrev pub owners_from : ℕ → List Task → List ℕ
@@ -16,7 +16,8 @@ all_owners g = owners_from 0 g.tasks
 
 -- the table of sites is the graph's
 pub record AreSites (g : TaskGraph) (sites : List Site) : Type 0 where
-  pub may_fail : map (λ (s : Site). s.may_fail) sites ≡ all_may_fail g
+  pub may_fail : map (λ (s : Site). s.answers.may_fail) sites ≡ all_may_fail g
+  pub may_cancel : map (λ (s : Site). s.answers.may_cancel) sites ≡ all_may_cancel g
   pub owners : map (λ (s : Site). s.owner.0) sites ≡ all_owners g
 
 -- the body has a work statement of this site, which may fail or not
@@ -26,7 +27,12 @@ abbrev mutual
   HasWork site may_fail (s ⨾ rest) = IsWork site may_fail s ⊎ HasWork site may_fail rest
 
   pub IsWork : (site : ℕ) → (may_fail : Bool) → Statement → Type 0
-  IsWork site may_fail (Work s fails) = (s ≡ site) × (fails ≡ may_fail)
+  IsWork site may_fail (Work s answers) = (s ≡ site) × (answers.may_fail ≡ may_fail)
   IsWork site may_fail (If i first second) = HasWork site may_fail first ⊎ HasWork site may_fail second
   IsWork site may_fail (When f first second) = HasWork site may_fail first ⊎ HasWork site may_fail second
+  IsWork site may_fail (AwaitAny xs won first second) = HasWork site may_fail first ⊎ HasWork site may_fail second
+  IsWork site may_fail (Try c list canceled caught finally) =
+      HasWork site may_fail list ⊎ HasWork site may_fail canceled ⊎ HasWork site may_fail caught ⊎ HasWork site may_fail finally
+  IsWork site may_fail (Trying c canceled caught finally) = HasWork site may_fail canceled ⊎ HasWork site may_fail caught ⊎ HasWork site may_fail finally
+  IsWork site may_fail (Caught thrown finally) = HasWork site may_fail finally
   IsWork site may_fail s = ⊥

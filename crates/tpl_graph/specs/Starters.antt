@@ -3,8 +3,7 @@ use Rattle.std.specs.Prelude.{ℕ, ◌&&◌, not, List, [], ◌∷◌, Option, S
 use Rattle.std.specs.declared.vec.Vec.{Vec}
 use Rattle.std.specs.declared.alloc.Global.{Global}
 use Rattle.tpl_model.specs.declared.ids.TaskId.{TaskId}
-use Rattle.tpl_model.specs.Options.{attached_to_parent, deny_child_attach}
-use Rattle.tpl_model.specs.Graph.{TaskGraph, options}
+use Rattle.tpl_model.specs.Graph.{TaskGraph, attaches, denies_attach}
 use Rattle.tpl_draft.specs.Ids.{task_number}
 use Rattle.tpl_draft.specs.declared.starter.Starter.{Starter}
 use Rattle.tpl_draft.specs.declared.starter.Starter.TheVariants.{Nobody, One, Several}
@@ -34,4 +33,4 @@ rows_graph rows = record { tokens = []; inputs = 0; tasks = map task_of rows }
 
 -- of the children that a task starts, those that are attached to it
 abbrev pub attached_of : List Row → ℕ → List ℕ → List ℕ
-attached_of rows p started = filter (λ c. attached_to_parent (options (rows_graph rows) c) && not (deny_child_attach (options (rows_graph rows) p))) started
+attached_of rows p started = filter (λ c. attaches (rows_graph rows) c && not (denies_attach (rows_graph rows) p)) started

@@ -7,7 +7,7 @@ ghost use Rattle.tpl_graph.specs.Prelude.{named, owned, owned_in, start_in, star
 use crate::row::Site;
 use std::alloc::AllocError;
 use tpl_draft::{DraftBody, DraftStmt, Names, Sort};
-use tpl_model::{MOST_TASKS, TaskId};
+use tpl_model::{Answers, MOST_TASKS, TaskId};
 
 fn either(first: bool, second: bool) -> bool
     ensures { result ≡ (first || second) }
@@ -112,7 +112,10 @@ fn collect_within(
         DraftStmt::Work(_, may_fail) => {
             sites.push(Site {
                 owner,
-                may_fail: *may_fail,
+                answers: Answers {
+                    may_fail: *may_fail,
+                    may_cancel: false,
+                },
             })?;
             Ok(())
         }

@@ -25,6 +25,7 @@ fn is_given_of(graph: &Graph, given: Given) -> bool
         Given::Quiet(TokenId(token)) => (token as usize) < graph.token_count(),
         Given::Ended(task, _) => is_task(graph, task),
         Given::Succeeds(SiteId(site)) => (site as usize) < graph.site_count(),
+        Given::Begins(task) | Given::Never(task) => is_task(graph, task) && has_body(graph, task),
     }
 }
 
@@ -36,6 +37,7 @@ fn is_of_one_thing(one: Given, other: Given) -> bool
         (Given::Quiet(k), Given::Quiet(j)) => k.0 == j.0,
         (Given::Ended(t, _), Given::Ended(s, _)) => t.0 == s.0,
         (Given::Succeeds(i), Given::Succeeds(j)) => i.0 == j.0,
+        (Given::Begins(t) | Given::Never(t), Given::Begins(s) | Given::Never(s)) => t.0 == s.0,
         _ => false,
     }
 }

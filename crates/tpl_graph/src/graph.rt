@@ -1,13 +1,14 @@
 //! A valid task graph and its readers.
 
 ghost use Rattle.std.specs.Prelude.{◌≡◌, ◌<◌, ◌≤◌, length, map, position, slice_get, true, Bool, Some, IfSome, IfNone, IfOk, IfErr, IsTrue, OnOk, ◌↔◌, ℕ, option_map, bytes_eq};
-ghost use Rattle.tpl_draft.specs.Prelude.{IsValid, Refuses, all_may_fail, antecedent_of, args_of, draft_of, input_number, names_of, numbered, site_number, task_in, task_number, token_number};
+ghost use Rattle.tpl_draft.specs.Prelude.{IsValid, Refuses, all_may_cancel, all_may_fail, antecedent_of, args_of, draft_of, input_number, names_of, numbered, site_number, task_in, task_number, token_number};
 ghost use Rattle.tpl_graph.specs.Prelude.{AreKept, AreWithin, HasWork, IsChecked, IsNamedGraph, kind_in, kind_of, task_of};
 ghost use Rattle.tpl_model.specs.Prelude.{IsParent, is_task, is_token, mem, sites};
 ghost use Rattle.tpl_model.specs.Graph as spec;
 ghost use Rattle.tpl_model.specs.Valid as valid;
 
 use crate::check::{Checked, check};
+use crate::early::are_early;
 use crate::role::Role;
 use crate::row::{Kind, OwnRole, Row, Site};
 use crate::rows::number_tasks;
@@ -17,11 +18,11 @@ use std::alloc::{AllocError, Global};
 use std::marker::Model;
 use tpl_draft::{Draft, GraphFault, Origin, Tables};
 use tpl_model::{
-    InputId, LabelId, MOST_EVENTS, MOST_INPUTS, MOST_SITES, MOST_TASKS, MOST_TOKENS, Options,
-    Script, SiteId, TaskId, TokenId,
+    InputId, LabelId, MOST_EVENTS, MOST_INPUTS, MOST_SITES, MOST_TASKS, MOST_TOKENS,
+    Options, Script, SiteId, TaskId, TokenId,
 };
 
-/// A valid task graph with its names: at most 1,024 tasks, 32 tokens, 16 inputs and 256 sites. Ids count from 0 in
+/// A valid task graph with its names: at most 1,024 tasks, 32 tokens, 64 inputs and 1,024 sites. Ids count from 0 in
 /// declared order, sites in the order of the text, and labels by their first `throw`.
 pub struct Graph {
     names: Tables,
@@ -31,10 +32,12 @@ pub struct Graph {
     attached: Vec<Vec<TaskId>>,
     sites: Vec<Site>,
     bound: u32,
+    is_early: bool,
 }
 
 impl Model for Graph {
-    ghost use Rattle.std.specs.Prelude.{length};
+    ghost use Rattle.std.specs.Prelude.{◌≡◌, length};
+    ghost use Rattle.tpl_model.specs.Graph.{is_early_graph};
     ghost use Rattle.tpl_draft.specs.Named.{Named};
     ghost use Rattle.tpl_graph.specs.Coding.{named_code};
 
@@ -59,7 +62,7 @@ impl Model for Graph {
       names = seen g.names;
     } in
         IsNamedGraph n × AreKept n g.parents.items g.attached.items g.bound
-        × AreSites n.graph g.sites.items };
+        × AreSites n.graph g.sites.items × (g.is_early ≡ is_early_graph n.graph) };
 }
 
 /// Of its own, so that a function that lets a graph go has one call for it in place of some thirty, one for each vector: such
@@ -74,6 +77,7 @@ impl Drop for Graph {
             attached: _,
             sites: _,
             bound: _,
+            is_early: _,
         } = self;
     }
 }
@@ -85,6 +89,7 @@ struct Kept {
     parents: Vec<Option<TaskId>>,
     attached: Vec<Vec<TaskId>>,
     bound: u32,
+    is_early: bool,
 }
 
 /// The rows of the tasks, their parents and attached children, and the longest run.
@@ -95,16 +100,20 @@ fn keep(alloc: Global, draft: &Draft, checked: &Checked) -> Result<Kept, AllocEr
         ≡ map (task_in (names_of (draft_of draft.now))) (draft_of draft.now).tasks) }
     ensures kept { IfOk result (λ k. AreKept (numbered (draft_of draft.now))
         k.parents.items k.attached.items k.bound) }
+    ensures early { IfOk result (λ k. k.is_early
+        ≡ spec.is_early_graph (numbered (draft_of draft.now)).graph) }
 {
     let tasks = number_tasks(alloc, &checked.names, &draft.tasks)?;
     let attached = attached(alloc, &tasks, &checked.starts)?;
     let parents = parents(alloc, &checked.starters)?;
     let bound = bound(&tasks, checked.tokens.len());
+    let is_early = are_early(&tasks);
     Ok(Kept {
         tasks,
         parents,
         attached,
         bound,
+        is_early,
     })
 }
 
@@ -123,6 +132,7 @@ fn make(alloc: Global, draft: &Draft, checked: Checked) -> Result<Graph, AllocEr
         attached: kept.attached,
         sites: checked.sites,
         bound: kept.bound,
+        is_early: kept.is_early,
     })
 }
 
@@ -163,7 +173,7 @@ impl Graph {
         self.tokens.len()
     }
 
-    /// How many inputs there are: at most 16.
+    /// How many inputs there are: at most 64.
     pub fn input_count(&self) -> usize
         ensures count { result ≡ self.now.graph.inputs }
         ensures limit { result ≤ MOST_INPUTS }
@@ -171,7 +181,7 @@ impl Graph {
         self.names.inputs.len()
     }
 
-    /// How many sites, that is work statements, there are: at most 256.
+    /// How many sites, that is work statements, there are: at most 1,024.
     pub fn site_count(&self) -> usize
         ensures count { result ≡ length self.now.names.sites }
         ensures limit { result ≤ MOST_SITES }
@@ -349,6 +359,22 @@ impl Graph {
         &self.tasks[task.0 as usize].script
     }
 
+    /// Whether the body of a task is that of an async method.
+    pub fn is_async(&self, task: TaskId) -> bool
+        requires { is_task self.now.graph task.0 }
+        ensures { result ≡ spec.is_async self.now.graph task.0 }
+    {
+        self.tasks[task.0 as usize].is_async
+    }
+
+    /// Whether the graph is such as documents of versions 1 to 3 have: no body awaits, catches or is async, and no job may
+    /// be canceled.
+    pub fn is_early(&self) -> bool
+        ensures { result ≡ spec.is_early_graph self.now.graph }
+    {
+        self.is_early
+    }
+
     /// The tokens to which a token is linked (`CancellationTokenSource.CreateLinkedTokenSource`).
     pub fn sources(&self, token: TokenId) -> &[TokenId]
         requires { is_token self.now.graph token.0 }
@@ -365,7 +391,15 @@ impl Graph {
         requires { site.0 < length self.now.names.sites }
         ensures { slice_get (all_may_fail self.now.graph) site.0 ≡ Some result }
     {
-        self.sites[site.0 as usize].may_fail
+        self.sites[site.0 as usize].answers.may_fail
+    }
+
+    /// Whether the job of a site may be canceled.
+    pub fn site_may_cancel(&self, site: SiteId) -> bool
+        requires { site.0 < length self.now.names.sites }
+        ensures { slice_get (all_may_cancel self.now.graph) site.0 ≡ Some result }
+    {
+        self.sites[site.0 as usize].answers.may_cancel
     }
 
     /// Each work statement says of its site what `site_may_fail` says: a caller that needs this calls it, which does

@@ -9,6 +9,7 @@
 mod check;
 mod claim;
 mod collect;
+mod early;
 mod fits;
 mod graph;
 mod role;

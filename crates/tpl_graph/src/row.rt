@@ -1,6 +1,6 @@
 //! What a graph keeps of each task, token and site.
 
-use tpl_model::{Options, Script, TaskId, TokenId};
+use tpl_model::{Answers, Options, Script, TaskId, TokenId};
 
 /// What makes a task ready (Task Parallel Library guide: tasks, child tasks, continuations, `Task.WhenAll` and
 /// `Task.WhenAny`).
@@ -35,11 +35,12 @@ pub(crate) struct Row {
     pub(crate) script: Script,
     pub(crate) token: Option<TokenId>,
     pub(crate) options: Options,
+    pub(crate) is_async: bool,
 }
 
-/// A site: the task whose body has it, and whether its job may fail.
+/// A site: the task whose body has it, and what its job may answer.
 #[derive(Clone, Copy)]
 pub(crate) struct Site {
     pub(crate) owner: TaskId,
-    pub(crate) may_fail: bool,
+    pub(crate) answers: Answers,
 }

@@ -1,6 +1,6 @@
 //! The rows of a graph: its tasks and tokens with ids in place of names.
 
-ghost use Rattle.std.specs.Prelude.{◌≡◌, ◌≤◌, None, length, map, string_bytes, IfOk, option_map};
+ghost use Rattle.std.specs.Prelude.{◌≡◌, ◌≤◌, None, false, length, map, string_bytes, IfOk, option_map};
 ghost use Rattle.tpl_draft.specs.Prelude.{AreFew, place, script_in, seen, task_in, task_number, task_of, token_in, token_number};
 ghost use Rattle.tpl_draft.specs.Draft as meaning;
 ghost use Rattle.tpl_draft.specs.Origins as origins;
@@ -73,12 +73,14 @@ fn number_work(
     ensures token { IfOk result (λ r. option_map token_number r.token
         ≡ option_map (place tables.now.tokens) (option_map string_bytes work.now.token)) }
     ensures options { IfOk result (λ r. r.options ≡ work.now.options) }
+    ensures plain { IfOk result (λ r. r.is_async ≡ false) }
 {
     Ok(Row {
         role,
         script: number_script(alloc, tables, &work.body)?,
         token: own_token(tables, &work.token),
         options: work.options,
+        is_async: false,
     })
 }
 
@@ -88,12 +90,14 @@ fn number_bare(alloc: Global, role: OwnRole) -> Row
     ensures script { result.script ≡ Nothing }
     ensures token { result.token ≡ None }
     ensures options { result.options ≡ 0 }
+    ensures plain { result.is_async ≡ false }
 {
     Row {
         role,
         script: script_of(Body::new(Vec::new(alloc))),
         token: None,
         options: Options::empty(),
+        is_async: false,
     }
 }
 

@@ -135,5 +135,6 @@ impl Same for Row {
             && self.script.same(&other.script)
             && same_token(self.token, other.token)
             && self.options == other.options
+            && self.is_async == other.is_async
     }
 }

@@ -5,8 +5,7 @@ ghost use Rattle.tpl_draft.specs.Prelude.{starter_of, starters_from, task_number
 ghost use Rattle.tpl_draft.specs.declared.starter.Starter.TheVariants.{Nobody};
 ghost use Rattle.tpl_graph.specs.Prelude.{EachAt, all_owned, attached_of, noted, numbers, owned, parent_in, rows_graph, started};
 ghost use Rattle.tpl_graph.specs.Starters.{more as one_more};
-ghost use Rattle.tpl_model.specs.Prelude.{attached_to_parent, deny_child_attach, statement_count};
-ghost use Rattle.tpl_model.specs.Graph as spec;
+ghost use Rattle.tpl_model.specs.Prelude.{attaches, denies_attach, statement_count};
 
 use crate::collect::collect;
 use crate::row::{Row, Site};
@@ -127,22 +126,22 @@ pub(crate) fn parents(alloc: Global, table: &[Starter]) -> Result<Vec<Option<Tas
     Ok(parents)
 }
 
-/// The task has AttachedToParent.
+/// The task attaches itself to its parent, if that allows it: it has AttachedToParent, and its body isn't async.
 fn would_attach(rows: &[Row], task: TaskId) -> bool
-    ensures { result ≡ attached_to_parent (spec.options (rows_graph rows.now) task.0) }
+    ensures { result ≡ attaches (rows_graph rows.now) task.0 }
 {
     match rows.get(task.0 as usize) {
-        Some(row) => row.options.attached_to_parent(),
+        Some(row) => row.options.attached_to_parent() && !row.is_async,
         None => false,
     }
 }
 
-/// The task has DenyChildAttach.
+/// No child is attached to the task: it has DenyChildAttach, or its body is async.
 fn denies(rows: &[Row], task: usize) -> bool
-    ensures { result ≡ deny_child_attach (spec.options (rows_graph rows.now) task) }
+    ensures { result ≡ denies_attach (rows_graph rows.now) task }
 {
     match rows.get(task) {
-        Some(row) => row.options.deny_child_attach(),
+        Some(row) => row.options.deny_child_attach() || row.is_async,
         None => false,
     }
 }

@@ -25,6 +25,8 @@ fn label_parts(graph: &Graph, label: Option<Label>) -> (&str, &str, &str)
             ("OperationCanceled(", token_name(graph, token), ")")
         }
         Some(Label::WorkFailed(site)) => ("WorkFailed(", site_name(graph, site), ")"),
+        Some(Label::WorkCanceled(site)) => ("WorkCanceled(", site_name(graph, site), ")"),
+        Some(Label::TaskCanceled(task)) => ("TaskCanceled(", name_of(graph, task), ")"),
     }
 }
 

@@ -1,23 +1,24 @@
 -- From which place on a claim fails along a run, found from a few places of the whole run.
-use Rattle.std.specs.Prelude.{◌≡◌, ℕ, suc, ◌≤◌, ◌++◌, ◌||◌, not, Bool, true, false, if◌then◌else◌, Option, Some, None, IfSome, List, [], ◌∷◌, length, nat_le}
+use Rattle.std.specs.Prelude.{◌≡◌, ℕ, zero, suc, ◌≤◌, ◌++◌, ◌||◌, not, Bool, true, false, if◌then◌else◌, Option, Some, None, IfSome, List, [], ◌∷◌, length, is_some, nat_le, option_and_then}
 use Rattle.tpl_model.specs.Graph.{TaskGraph}
 use Rattle.tpl_model.specs.declared.event.Act.{Act}
 use Rattle.tpl_model.specs.declared.event.Act.TheVariants.{Request}
 use Rattle.tpl_model.specs.declared.event.Event.{Event}
 use Rattle.tpl_model.specs.declared.ids.TokenId.{TokenId}
 use Rattle.tpl_model.specs.declared.status.Actor.{Actor}
-use Rattle.tpl_model.specs.Facts.{requested, failed}
+use Rattle.tpl_model.specs.Facts.{begun, requested, failed, started, ending}
 use Rattle.tpl_model.specs.Rules.{Allows, Run, Complete}
 use Rattle.tpl_model.specs.Valid.{IsGraph}
 use Rattle.tpl_model.specs.declared.claim.Given.{Given}
-use Rattle.tpl_model.specs.declared.claim.Given.TheVariants.{Input, Quiet, Ended, Succeeds}
+use Rattle.tpl_model.specs.declared.claim.Given.TheVariants.{Input, Quiet, Ended, Succeeds, Begins, Never}
 use Rattle.tpl_model.specs.declared.ids.TaskId.{TaskId}
 use Rattle.tpl_model.specs.declared.claim.Property.{Property}
-use Rattle.tpl_model.specs.declared.claim.Property.TheVariants.{Final as EndsIn}
+use Rattle.tpl_model.specs.declared.claim.Property.TheVariants.{Final as EndsIn, Never as NeverBegins}
 use Rattle.tpl_model.specs.Certificate.{same, given_sure}
 use Rattle.tpl_model.specs.Claims.{Claim, input}
 use Rattle.tpl_laws.specs.RunTests.{is_complete}
-use Rattle.tpl_laws.specs.ClaimTests.{holds_of, holds, lost_at}
+use Rattle.tpl_laws.specs.RowTests.{parent_of}
+use Rattle.tpl_laws.specs.ClaimTests.{holds_of, holds, lost_at, place_of}
 use Rattle.tpl_laws.specs.Runs.{gives_quiet}
 
 -- the place is reached
@@ -30,6 +31,11 @@ pub record IsFrom (test : List Event → Bool) (h : List Event) (place : Option 
   pub within : IfSome place (λ p. p ≤ length h)
   pub each : (later before : List Event) → later ++ before ≡ h → test before ≡ is_at place (length before)
 
+-- the first place, else the second
+abbrev pub or_else : Option ℕ → Option ℕ → Option ℕ
+or_else None other = other
+or_else (Some place) other = Some place
+
 -- the place that is known already, else this one where the test is true now
 abbrev pub or_now : Option ℕ → Bool → ℕ → Option ℕ
 or_now None now n = if now then Some n else None
@@ -38,6 +44,21 @@ or_now (Some p) now n = Some p
 -- the place from which on a property isn't true of the run
 abbrev pub fails_from : TaskGraph → List Bool → List Event → Option ℕ → Property TaskId → Option ℕ
 fails_from g v h complete p = if holds_of g v h p then None else lost_at g v h complete p
+
+-- the place from which a task is settled: that at which it ended; or of a child that is never started, that from which
+-- its parent is. It takes at most n steps up
+abbrev pub settled_from_within : TaskGraph → List Bool → List Event → ℕ → ℕ → Option ℕ
+settled_from_within g v h zero t = place_of (ending g v h t)
+settled_from_within g v h (suc n) t =
+    or_else (place_of (ending g v h t)) (if started g v h t then None else option_and_then (settled_from_within g v h n) (parent_of g t))
+
+-- the place from which t is settled: a parent is declared before its child, so it takes no more than t steps up
+abbrev pub settled_from : TaskGraph → List Bool → List Event → ℕ → Option ℕ
+settled_from g v h t = settled_from_within g v h t t
+
+-- the place from which t is settled and hasn't begun
+abbrev pub unbegun_from : TaskGraph → List Bool → List Event → ℕ → Option ℕ
+unbegun_from g v h t = if is_some (begun h t) then None else settled_from g v h t
 
 -- the places from which tokens are requested, and those from which jobs have failed
 pub record Noted : Type 0 where
@@ -51,6 +72,8 @@ is_broken g v h noted (Input i value ∷ given) n = not (same (input v i.0) valu
 is_broken g v h noted (Quiet k ∷ given) n = is_at (noted.asked k.0) n || is_broken g v h noted given n
 is_broken g v h noted (Ended t ends ∷ given) n = is_at (fails_from g v h None (EndsIn t ends)) n || is_broken g v h noted given n
 is_broken g v h noted (Succeeds site ∷ given) n = is_at (noted.failed site.0) n || is_broken g v h noted given n
+is_broken g v h noted (Begins t ∷ given) n = is_at (unbegun_from g v h t.0) n || is_broken g v h noted given n
+is_broken g v h noted (Never t ∷ given) n = is_at (fails_from g v h None (NeverBegins t)) n || is_broken g v h noted given n
 
 -- a property fails first at its place, unless what is given is broken there
 abbrev pub unless_broken : Option ℕ → (ℕ → Bool) → Option ℕ

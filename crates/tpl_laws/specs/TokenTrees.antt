@@ -1,7 +1,7 @@
 -- When a certificate of rows that speak of tokens is accepted.
 use Rattle.std.specs.Prelude.{◌≡◌, ◌<◌, true, false, List, [], ◌∷◌, length}
 use Rattle.tpl_model.specs.declared.finals.Final.TheVariants.{RanToCompletion, Canceled, Faulted}
-use Rattle.tpl_model.specs.Graph.{TaskGraph, kind, is_task}
+use Rattle.tpl_model.specs.Graph.{TaskGraph, kind, is_task, is_early_graph}
 use Rattle.tpl_model.specs.declared.ids.TaskId.{TaskId}
 use Rattle.tpl_model.specs.declared.claim.Property.{Property}
 use Rattle.tpl_model.specs.Claims.{Claim}
@@ -9,9 +9,9 @@ use Rattle.tpl_model.specs.Certificate.{IdsOfRows, Row, plain, Tree, OnInput, On
 use Rattle.tpl_model.specs.TokenRules.{LeafAssumed, ClosedWithTokens, ProvesWithTokens, narrowed, TokensOfRows, input_split, end_split, winner_split, MayHaveWinner, assumed_with_tokens}
 use Rattle.tpl_laws.specs.LeastRows.{least_rows}
 
--- a leaf with these rows is closed and proves the claim
+-- a leaf with these rows is closed and proves the claim, where the graph is one for these rules
 abbrev pub AcceptsRows : TaskGraph → Property TaskId → LeafAssumed → List Row → Type 0
-AcceptsRows g p l rows = ClosedWithTokens g l rows × ProvesWithTokens g l rows p
+AcceptsRows g p l rows = ClosedWithTokens g l rows × ProvesWithTokens g l rows p × (is_early_graph g ≡ true)
 
 -- each leaf of the tree is closed and proves the claim, where the ends that its splits left are narrowed; one without
 -- rows with the least ones

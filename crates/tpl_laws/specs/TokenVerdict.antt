@@ -2,7 +2,7 @@
 use Rattle.std.specs.Prelude.{◌≡◌, ℕ, suc, ◌+◌, ◌&&◌, ◌↔◌, Bool, true, false, Option, Some, None, Ok, Result, List, [], ◌∷◌, length, nat_eq, nat_lt}
 use Rattle.tpl_model.specs.declared.finals.Final.TheVariants.{RanToCompletion, Canceled, Faulted}
 use Rattle.tpl_model.specs.Members.{mem}
-use Rattle.tpl_model.specs.Graph.{TaskGraph, TaskKind, WhenAny, kind}
+use Rattle.tpl_model.specs.Graph.{TaskGraph, TaskKind, WhenAny, kind, is_early_graph}
 use Rattle.tpl_model.specs.declared.event.Event.{Event}
 use Rattle.tpl_model.specs.Rules.{Run}
 use Rattle.tpl_model.specs.Valid.{IsGraph}
@@ -53,13 +53,13 @@ abbrev pub may_have_winner : TaskKind → ℕ → Bool
 may_have_winner (WhenAny args) x = mem x args
 may_have_winner kind x = false
 
--- each leaf of the tree has one row for each task, and each id in it is the graph's
+-- the graph is one for these rules, each leaf of the tree has one row for each task, and each id in it is the graph's
 abbrev pub token_fits : TaskGraph → Tree → Bool
 token_fits g (OnInput i on_true on_false) = nat_lt i g.inputs && (token_fits g on_true && token_fits g on_false)
 token_fits g (OnEnd t ran canceled faulted) = nat_lt t (length g.tasks) && (token_fits g ran && (token_fits g canceled && token_fits g faulted))
 token_fits g (OnWinner n x on_yes on_no) = may_have_winner (kind g n) x && (token_fits g on_yes && token_fits g on_no)
-token_fits g (RowsLeaf rows) = nat_eq (length rows) (length g.tasks) && (rows_fit g (plain rows) && tokens_fit g rows)
-token_fits g LeastLeaf = true
+token_fits g (RowsLeaf rows) = nat_eq (length rows) (length g.tasks) && (rows_fit g (plain rows) && (tokens_fit g rows && is_early_graph g))
+token_fits g LeastLeaf = is_early_graph g
 
 -- the first claim without a tree that fits, or tree without a claim
 abbrev pub token_misfit : TaskGraph → ℕ → List Claim → List Tree → Option CertFault

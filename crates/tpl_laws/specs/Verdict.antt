@@ -2,7 +2,7 @@
 use Rattle.tpl_model.specs.declared.rule_set.RuleSet.TheVariants.{WithoutTokens}
 use Rattle.std.specs.Prelude.{ℕ, zero, suc, ◌+◌, ◌&&◌, Bool, true, false, Option, Some, None, Result, Ok, Err, List, [], ◌∷◌, length, nat_eq, nat_lt}
 use Rattle.tpl_model.specs.declared.finals.Final.TheVariants.{RanToCompletion, Canceled, Faulted}
-use Rattle.tpl_model.specs.Graph.{TaskGraph, TaskKind, WhenAll, WhenAny, kind}
+use Rattle.tpl_model.specs.Graph.{TaskGraph, TaskKind, WhenAll, WhenAny, kind, is_early_graph}
 use Rattle.tpl_model.specs.declared.fault.Rule.{Rule}
 use Rattle.tpl_model.specs.declared.fault.Rule.TheVariants.{K1, K2, K3, K4, K5, K6}
 use Rattle.tpl_model.specs.declared.fault.CertFault.{CertFault}
@@ -101,12 +101,12 @@ abbrev pub are_plain : List Row → Bool
 are_plain [] = true
 are_plain (r ∷ rows) = (is_none r.asked && is_none r.asks) && are_plain rows
 
--- the tree is plain, each of its leaves has one row for each task, and each id in it is the graph's
+-- the graph is one for these rules, the tree is plain, each of its leaves has one row for each task, and each id in it is the graph's
 abbrev pub fits : TaskGraph → Tree → Bool
 fits g (OnInput i on_true on_false) = nat_lt i g.inputs && (fits g on_true && fits g on_false)
 fits g (OnEnd t ran canceled faulted) = nat_lt t (length g.tasks) && (fits g ran && (fits g canceled && fits g faulted))
 fits g (OnWinner n x on_yes on_no) = false
-fits g (RowsLeaf rows) = nat_eq (length rows) (length g.tasks) && (rows_fit g (plain rows) && are_plain rows)
+fits g (RowsLeaf rows) = nat_eq (length rows) (length g.tasks) && (rows_fit g (plain rows) && (are_plain rows && is_early_graph g))
 fits g LeastLeaf = false
 
 -- the first claim without a tree that fits, or tree without a claim

@@ -7,13 +7,14 @@ use Rattle.tpl_model.specs.declared.ids.TaskId.{TaskId}
 use Rattle.tpl_model.specs.Members.{mem}
 use Rattle.tpl_model.specs.declared.event.Event.{Event}
 use Rattle.tpl_model.specs.Graph.{TaskGraph}
-use Rattle.tpl_model.specs.Facts.{requested_itself, started, ending}
+use Rattle.tpl_model.specs.Facts.{requested_itself, started, ending, failed}
 use Rattle.tpl_model.specs.Rules.{Run, seen}
 use Rattle.tpl_model.specs.Valid.{IsGraph, bound}
 use Rattle.tpl_run.specs.Rows.{TaskRow, row_at}
 
--- one row per task, the children that were started, the tasks whose exceptions were observed, and the tokens that were requested themselves
-pub record IsKept (g : TaskGraph) (v : List Bool) (h : List Event) (rows : List TaskRow) (begun seen_tasks : List ℕ) (tokens : List Bool) : Type 0 where
+-- one row per task, the children that were started, the tasks whose exceptions were observed, the tokens that were
+-- requested themselves, and the jobs that have failed or were canceled
+pub record IsKept (g : TaskGraph) (v : List Bool) (h : List Event) (rows : List TaskRow) (begun seen_tasks : List ℕ) (tokens failed_jobs : List Bool) : Type 0 where
   pub graph : IsGraph g
   pub run : Run g v h
   pub each_row : (t : ℕ) → t < length g.tasks → slice_get rows t ≡ Some (row_at g v h t)
@@ -23,6 +24,7 @@ pub record IsKept (g : TaskGraph) (v : List Bool) (h : List Event) (rows : List 
   pub each_seen : (t : ℕ) → mem t seen_tasks ≡ seen g v h t
   pub each_token : (k : ℕ) → slice_index_or tokens k false ≡ requested_itself g v h k
   pub token_count : length tokens ≡ MOST_TOKENS
+  pub each_job : (site : ℕ) → slice_index_or failed_jobs site false ≡ failed g v h site
 
 -- there is room for a whole run, and a list for the exceptions that one task carries
 pub record HasRoom (g : TaskGraph) (list : Vec Event Global) (carried : Vec TaskId Global) : Type 0 where

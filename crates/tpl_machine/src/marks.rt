@@ -2,7 +2,7 @@
 
 ghost use Rattle.std.specs.Prelude.{◌≡◌, ◌≤◌, Some, None, length, reverse, if◌then◌else◌};
 ghost use Rattle.tpl_machine.specs.Prelude.{latest, mark_by, status_marked};
-ghost use Rattle.tpl_model.specs.Prelude.{begun, begun_by};
+ghost use Rattle.tpl_model.specs.Prelude.{runner, runs_by};
 ghost use Rattle.tpl_run.specs.Prelude.{began};
 
 use tpl_graph::Kind;
@@ -45,22 +45,22 @@ pub fn latest(events: &[Event], task: TaskId) -> Option<Mark>
     None
 }
 
-/// Who did the act, if it begins the task.
-fn begins(event: &Event, task: TaskId) -> Option<Actor>
-    ensures { result ≡ (if begun_by event.now.act task.0 then Some event.now.actor else None) }
+/// Who did the act, if it begins the task or goes on with it.
+fn runs(event: &Event, task: TaskId) -> Option<Actor>
+    ensures { result ≡ (if runs_by event.now.act task.0 then Some event.now.actor else None) }
 {
     match event.act {
-        Act::Begin(other) if other.0 == task.0 => Some(event.actor),
+        Act::Begin(other) | Act::Resume(other, _) if other.0 == task.0 => Some(event.actor),
         _ => None,
     }
 }
 
-/// Who began the task, which happens once in a run: the search begins with the newest event.
-pub fn begun(events: &[Event], task: TaskId) -> Option<Actor>
-    ensures { result ≡ begun (reverse events.now) task.0 }
+/// The worker of a task's body, who began it or last went on with it: the search begins with the newest event.
+pub fn runner(events: &[Event], task: TaskId) -> Option<Actor>
+    ensures { result ≡ runner (reverse events.now) task.0 }
 {
     for i in (0..events.len()).rev() {
-        let found = begins(&events[i], task);
+        let found = runs(&events[i], task);
         if found.is_some() {
             return found;
         }

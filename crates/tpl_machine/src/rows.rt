@@ -3,11 +3,15 @@
 ghost use Rattle.std.specs.Prelude.{◌≡◌, ℕ, ◌<◌, ◌≤◌, ◌||◌, [], length, map, slice_get, slice_set, slice_index_or, Some, None, IfSome, false, true, vec_capacity, vec_len, if◌then◌else◌, option_map};
 ghost use Rattle.tpl_draft.specs.Prelude.{task_number, token_number};
 ghost use Rattle.tpl_model.specs.Prelude.{body_final, body_over, gathered, mem, own_atom, those_started, worked};
-ghost use Rattle.tpl_run.specs.Prelude.{AreAtoms, CanEnd, HaveRoom, TaskRow, carries, ending_in, ending_of, is_all, is_it, passed, with_ending, with_rest};
+ghost use Rattle.tpl_run.specs.Prelude.{AreAtoms, CanEnd, HaveRoom, TaskRow, carries, carries_some, ending_in, ending_of, is_all, is_it, passed, passed_await, with_ending, with_rest};
 
 use crate::gather::{add_all, gather, gather_started};
 use tpl_graph::Kind;
-use tpl_model::{Actor, Answer, Final, MOST_TASKS, MOST_TOKENS, Outcome, TaskId, TaskSet, TokenId};
+use tpl_model::{
+    Actor, Answer, Final, MOST_SITES, MOST_TASKS, MOST_TOKENS, Outcome, SiteId, TaskId, TaskSet,
+    TokenId, UnderWay,
+};
+use tpl_run::body::Manner;
 use tpl_run::row::{Ended, Row};
 
 /// Marks a token as requested, if there is one.
@@ -47,26 +51,61 @@ pub fn observe(seen: &mut TaskSet, rows: &[Row], subject: Option<TaskId>)
     }
 }
 
-/// A task passes its next statement. `holds` is what the statement tests.
-pub fn pass_row(rows: &mut Vec<Row>, task: TaskId, own: Option<TokenId>, holds: bool)
-    requires { task.0 < vec_len rows.old }
-    ensures { (x : TaskRow) → slice_get rows.old.items task.0 ≡ Some x
-        → rows.new.items ≡ slice_set rows.old.items task.0
-        (with_rest x (passed (option_map token_number own) holds x.rest.left)) }
+/// The exceptions that each of the tasks carries are observed.
+pub fn observe_all(seen: &mut TaskSet, rows: &[Row], tasks: &[TaskId])
+    requires { (t : ℕ) (x : TaskRow) → slice_get rows.now t ≡ Some x → x.room ≤ MOST_TASKS }
+    ensures { (t : ℕ) → mem t seen.new ≡ (carries_some rows.now (map task_number tasks.now) t
+        || mem t seen.old) }
 {
-    let row = &mut rows[task.0 as usize];
-    row.pass(own, holds);
+    for task in tasks {
+        observe(seen, rows, Some(*task));
+    }
 }
 
-/// A task passes a job that has answered.
-pub fn work_row(rows: &mut Vec<Row>, task: TaskId, answer: Answer)
+/// Marks a job as failed, if there is one.
+pub fn mark_job(failed: &mut [bool; MOST_SITES], site: Option<SiteId>)
+    requires { IfSome site (λ s. s.0 < MOST_SITES) }
+    ensures marks { (s : ℕ) → slice_index_or failed.new s false
+        ≡ (is_it (option_map (λ x. x.0) site) s || slice_index_or failed.old s false) }
+    ensures count { length failed.new ≡ length failed.old }
+{
+    if let Some(site) = site {
+        failed[site.0 as usize] = true;
+    }
+}
+
+/// A task passes its next statement. `holds` is what the statement tests.
+pub fn pass_row(rows: &mut Vec<Row>, task: TaskId, manner: Manner, holds: bool)
     requires { task.0 < vec_len rows.old }
     ensures { (x : TaskRow) → slice_get rows.old.items task.0 ≡ Some x
         → rows.new.items ≡ slice_set rows.old.items task.0
-        (with_rest x (worked answer x.rest.left)) }
+        (with_rest x (passed manner.is_async (option_map token_number manner.own) holds
+        x.rest.left)) }
 {
     let row = &mut rows[task.0 as usize];
-    row.work(answer);
+    row.pass(manner, holds);
+}
+
+/// A task goes on behind what it awaited: with what is thrown there, or with the list that the winner chooses.
+pub fn resume_row(rows: &mut Vec<Row>, task: TaskId, thrown: UnderWay, is_winner: bool)
+    requires { task.0 < vec_len rows.old }
+    ensures { (x : TaskRow) → slice_get rows.old.items task.0 ≡ Some x
+        → rows.new.items ≡ slice_set rows.old.items task.0
+        (with_rest x (passed_await thrown is_winner x.rest.left)) }
+{
+    let row = &mut rows[task.0 as usize];
+    row.resume(thrown, is_winner);
+}
+
+/// A task, whose body may be async, passes a job that has answered.
+pub fn work_row(rows: &mut Vec<Row>, task: TaskId, is_async: bool, answer: Answer)
+    requires { task.0 < vec_len rows.old }
+    ensures { (x : TaskRow) → slice_get rows.old.items task.0 ≡ Some x
+        → rows.new.items ≡ slice_set rows.old.items task.0
+        (with_rest x (worked is_async answer x.rest.left)) }
+{
+    let row = &mut rows[task.0 as usize];
+    row.work(is_async, answer);
 }
 
 /// A task ends, and keeps the list of exceptions as its own.

@@ -142,7 +142,7 @@ read_way (gcons (gnum zero) l) = Throwing (read_label l)
 read_way (gcons (gnum (suc n)) o) = Canceling (read_outcome o)
 read_way _ = GoingOn
 
-read_way-tree : (w : UnderWay) → read_way (way_tree w) ≡ w
+pub read_way-tree : (w : UnderWay) → read_way (way_tree w) ≡ w
 read_way-tree GoingOn = refl
 read_way-tree Returning = refl
 read_way-tree (Throwing l) = ap Throwing (read_label-tree l)
@@ -255,4 +255,10 @@ abbrev pub statements_code : Coded Statements
 statements_code = record {
   code = statements_tree;
   inj = λ x y e. sym (read_statements-tree x) ∙ ap read_statements e ∙ read_statements-tree y;
+}
+
+abbrev pub way_code : Coded UnderWay
+way_code = record {
+  code = way_tree;
+  inj = λ x y e. sym (read_way-tree x) ∙ ap read_way e ∙ read_way-tree y;
 }

@@ -4,9 +4,9 @@ pub use Rattle.tpl_model.specs.Claims.{AreAll, HasNoGap, Holds, HoldsOf, IsGiven
 pub use Rattle.tpl_model.specs.Cursor.{BeginsWith, behind, behind_choice, caught_by, chosen, left_at}
 pub use Rattle.tpl_model.specs.Rests.{Rest, caught_in, outcome_by, rest_at}
 pub use Rattle.tpl_model.specs.Ends.{checked, either_end, ends_at, ends_in, only_if, then_ends}
-pub use Rattle.tpl_model.specs.Facts.{Ending, all_final, all_over, begun, begun_by, runner, runs_by, body_final, body_over, carried_in, earlier, ended_at_once, ending, failed, final_in, first_ended, gathered, has_final, is_observe, left_body, left_by, on, outcome_in, outcome_of, own_atom, place_in, released, requested, requested_itself, rest, awaited, first_so, is_winner, resumed, settled_as, started, stopped_by, subject_in, those_started, uncaught, waited, winner_of, worked, worse}
+pub use Rattle.tpl_model.specs.Facts.{Ending, all_final, all_over, begun, begun_by, runner, runs_by, body_final, body_over, carried_in, earlier, ended_at_once, ending, failed, final_in, first_ended, gathered, has_final, is_observe, left_body, left_by, on, outcome_in, outcome_of, own_atom, place_in, released, requested, requested_itself, rest, as_exception, as_thrown, awaited, awaited_of, first_so, is_child, is_winner, resumed, settled_as, started, stopped_by, subject_in, those_started, uncaught, waited, waited_of, winner_of, worked, worse}
 pub use Rattle.tpl_model.specs.Finals.{IsPart, final_name, has, is_final}
-pub use Rattle.tpl_model.specs.Graph.{Child, Continues, IsParent, Linked, Root, TaskGraph, WhenAny, attached, attaches, body, denies_attach, is_async, is_early_graph, is_task, is_token, kind, options, some_in, sources, task}
+pub use Rattle.tpl_model.specs.Graph.{Child, Continues, IsParent, Linked, Root, TaskGraph, WhenAny, attached, attaches, body, denies_attach, are_early, is_async, is_early_graph, is_task, is_token, kind, options, some_in, sources, task}
 pub use Rattle.tpl_model.specs.Journal.{IsSeat, own, same_actor}
 pub use Rattle.tpl_model.specs.Knowledge.{Fact, IsRequested, as_facts, at_end, at_start, at_throw, behind_start, both, ends_well, from, join, meet, nowhere, past_check, when, with_facts, with_tokens}
 pub use Rattle.tpl_model.specs.Limits.{IsWithinLimits, count_one, finally_count, finallys_at, level_count, levels_in, statement_count}
@@ -17,7 +17,7 @@ pub use Rattle.tpl_model.specs.Recursion.{MayIsRight, MayStartIsRight, MustObser
 pub use Rattle.tpl_model.specs.Rules.{IsOutside, Run, actor_in, all_ended, bound_worker, can_settle, carried, label, label_in, may_resume, read_behind, some_carry, some_ended, status, steps, subject, to_end, token_requested, token_requested_by, worker_of, works}
 pub use Rattle.tpl_model.specs.Seen.{numbers_of, statement_of, statements_of}
 pub use Rattle.tpl_model.specs.Starts.{Adds, either_start, start_at, start_if, start_in, then_starts}
-pub use Rattle.tpl_model.specs.Statements.{Await, AwaitAny, Cancel, Check, Nothing, Start, Wait, Work, is_early, sites}
+pub use Rattle.tpl_model.specs.Statements.{Await, AwaitAny, Cancel, Check, Nothing, Start, Wait, Work, is_early, is_early_in, sites}
 pub use Rattle.tpl_model.specs.Statuses.{status_name}
 pub use Rattle.tpl_model.specs.TaskSet.{IsSubset, IsTaskSet, SetsAreTheirMembers, is_set}
 pub use Rattle.tpl_model.specs.Valid.{all_sites, bound}

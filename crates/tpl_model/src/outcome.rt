@@ -1,4 +1,7 @@
-//! How bodies end.
+//! How bodies end, and what is under way in them before that.
+
+ghost use Rattle.std.specs.Prelude.{◌≡◌};
+ghost use Rattle.tpl_model.specs.Prelude.{as_exception, as_thrown, outcome_by};
 
 use crate::Label;
 
@@ -25,4 +28,39 @@ pub enum UnderWay {
     Throwing(Label),
     /// An OperationCanceledException. Where nothing catches it, the body ends with this outcome.
     Canceling(Outcome),
+}
+
+impl UnderWay {
+    /// The outcome of a body that is left with this under way. None where the body goes on.
+    pub fn outcome(self) -> Option<Outcome>
+        ensures { result ≡ outcome_by self }
+    {
+        match self {
+            UnderWay::GoingOn => None,
+            UnderWay::Returning => Some(Outcome::Returned),
+            UnderWay::Throwing(label) => Some(Outcome::Threw(label)),
+            UnderWay::Canceling(outcome) => Some(outcome),
+        }
+    }
+
+    /// What is thrown on where this left the body of a task that is awaited: a cancellation as one that the body which
+    /// awaits acknowledges, since only an async body awaits.
+    pub fn as_thrown(self) -> UnderWay
+        ensures { result ≡ as_thrown self }
+    {
+        match self {
+            UnderWay::Canceling(_) => UnderWay::Canceling(Outcome::Acknowledged),
+            way => way,
+        }
+    }
+
+    /// The same with an AggregateException around it, which is an exception like another.
+    pub fn as_exception(self) -> UnderWay
+        ensures { result ≡ as_exception self }
+    {
+        match self {
+            UnderWay::Canceling(Outcome::Threw(label)) => UnderWay::Throwing(label),
+            way => way,
+        }
+    }
 }

@@ -19,7 +19,21 @@ fn statement_cancels_quiet(statement: &Stmt, view: &View) -> bool {
     match statement {
         Stmt::Cancel(token) => view.is_quiet(*token),
         Stmt::If(_, first, second) => cancels_quiet(first, view) || cancels_quiet(second, view),
-        Stmt::When(_, first, second) => cancels_quiet(first, view) || cancels_quiet(second, view),
+        Stmt::When(_, first, second) | Stmt::AwaitAny { first, second, .. } => {
+            cancels_quiet(first, view) || cancels_quiet(second, view)
+        }
+        Stmt::Try {
+            clauses: _,
+            list,
+            canceled,
+            caught,
+            finally,
+        } => {
+            cancels_quiet(list, view)
+                || cancels_quiet(canceled, view)
+                || cancels_quiet(caught, view)
+                || cancels_quiet(finally, view)
+        }
         _ => false,
     }
 }

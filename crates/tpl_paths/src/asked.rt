@@ -10,7 +10,7 @@ use crate::paths::{meet_if, meet_knowing_if};
 use crate::reached::Reached;
 use crate::reading::Reading;
 use crate::token_set::TokenSet;
-use tpl_model::{Final, Label, Outcome, SiteId, TaskId, TokenId, View};
+use tpl_model::{Answers, Final, Label, Outcome, SiteId, TaskId, TokenId, View};
 
 /// The paths that are asked for.
 #[derive(Clone, Copy)]
@@ -150,16 +150,16 @@ pub(crate) fn find_start(
 pub(crate) fn find_work(
     asked: Asked,
     site: SiteId,
-    may_fail: bool,
+    answers: Answers,
     reading: &Reading,
     reached: &Reached,
     found: &mut Option<Knowledge>,
 )
     ensures { told found.new ≡ meet (told found.old) (asked_at asked (reading_of reading.now)
-        (Work site.0 may_fail) (reached_of reached.now)) }
+        (Work site.0 answers) (reached_of reached.now)) }
 {
     let view = reading.view;
-    if may_fail && !view.is_sure(site) {
+    if answers.may_fail && !view.is_sure(site) {
         find_ended(
             asked,
             Outcome::Threw(Label::WorkFailed(site)),

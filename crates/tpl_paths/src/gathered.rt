@@ -9,7 +9,7 @@ use crate::knowledge::Knowledge;
 use crate::paths::meet;
 use crate::reached::Reached;
 use crate::reading::Reading;
-use tpl_model::{Outcome, SiteId, TaskId, TokenId};
+use tpl_model::{Answers, Outcome, SiteId, TaskId, TokenId};
 
 /// The paths to a place, and what those have in common that were asked for on the way.
 #[derive(Drop)]
@@ -38,6 +38,16 @@ impl Gathered {
         } }
     {
         self.find_ended(asked, outcome);
+        self.reached.clear();
+    }
+
+    /// No path goes on.
+    pub(crate) fn stop(&mut self)
+        ensures { gathered_of self.new ≡ record {
+          reached = nowhere;
+          found = told self.old.found;
+        } }
+    {
         self.reached.clear();
     }
 
@@ -73,14 +83,14 @@ impl Gathered {
     }
 
     /// The paths go on behind a job, or end there.
-    pub(crate) fn work(&mut self, site: SiteId, may_fail: bool, asked: Asked, reading: &Reading)
-        ensures { gathered_of self.new ≡ past asked (reading_of reading.now) (Work site.0 may_fail)
+    pub(crate) fn work(&mut self, site: SiteId, answers: Answers, asked: Asked, reading: &Reading)
+        ensures { gathered_of self.new ≡ past asked (reading_of reading.now) (Work site.0 answers)
             (gathered_of self.old) }
     {
         find_work(
             asked,
             site,
-            may_fail,
+            answers,
             reading,
             &self.reached,
             &mut self.found,

@@ -40,7 +40,7 @@ fn pass(statement: &Stmt, asked: Asked, reading: &Reading, gathered: &mut Gather
         Stmt::Cancel(token) => gathered.cancel(*token, asked, reading),
         Stmt::Start(child) => gathered.start(*child, asked, reading),
         Stmt::Observe => {}
-        Stmt::Work(site, may_fail) => gathered.work(*site, *may_fail, asked, reading),
+        Stmt::Work(site, answers) => gathered.work(*site, *answers, asked, reading),
         Stmt::If(input, first, second) => {
             let on_true = view.may_be(*input, true);
             let on_false = view.may_be(*input, false);
@@ -51,6 +51,11 @@ fn pass(statement: &Stmt, asked: Asked, reading: &Reading, gathered: &mut Gather
             let otherwise = view.may_differ(*status);
             pass_either(so, first, otherwise, second, asked, reading, gathered);
         }
+        Stmt::Await(_)
+        | Stmt::Wait(_)
+        | Stmt::AwaitAny { .. }
+        | Stmt::Try { .. }
+        | Stmt::Rethrow => gathered.stop(),
     }
 }
 

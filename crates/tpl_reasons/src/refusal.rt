@@ -19,6 +19,8 @@ fn rule(act: Act) -> &'static str {
             "a statement is passed while the task is Running, by the worker that began it, where the next one isn't a job",
         Act::Worked(_, _) =>
             "a job answers while its task is Running and has come to it, by the worker that began the task; it fails only with `may_fail`",
+        Act::Resume(_, _) =>
+            "a worker goes on with a body while its task is Running and has come to an await, once each task of the await has ended, or the winner, if it awaits any",
         Act::Leave(_) =>
             "a body is left while its task is Running and the body is over, by the worker that began the task",
         Act::Close(_) =>
@@ -56,6 +58,7 @@ fn running_text<C: Core>(alloc: Global, core: &C, task: TaskId) -> Said {
         Next::Work(_) => ", and its next statement is a job",
         Next::Over => ", and its body is over",
         Next::Silent => ", and its next statement isn't a job",
+        Next::Await => ", and it awaits tasks",
         Next::NotRunning => "",
     };
     match began_by(core.events(), task) {

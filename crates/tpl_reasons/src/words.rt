@@ -135,6 +135,14 @@ fn one_given_text(alloc: Global, graph: &Graph, one: Given) -> Said
             let site = name_of(graph, Named::Site(site));
             format!(in alloc; "the job {site} doesn't fail")
         }
+        Given::Begins(task) => {
+            let task = name(graph, task);
+            format!(in alloc; "{task} begins")
+        }
+        Given::Never(task) => {
+            let task = name(graph, task);
+            format!(in alloc; "{task} never begins")
+        }
     }
 }
 
@@ -144,7 +152,11 @@ fn is_of_job(one: Given) -> bool
 {
     match one {
         Given::Succeeds(_) => true,
-        Given::Input(_, _) | Given::Quiet(_) | Given::Ended(_, _) => false,
+        Given::Input(_, _)
+        | Given::Quiet(_)
+        | Given::Ended(_, _)
+        | Given::Begins(_)
+        | Given::Never(_) => false,
     }
 }
 

@@ -39,6 +39,7 @@ fn run_on(core: &mut Fast<'_>, crew: &mut Crew, task: TaskId, kept: &Kept, answe
             crew.perform(core, Act::Worked(task, answer))
                 || crew.perform(core, Act::Worked(task, Answer::Done))
         }
+        Next::Await => go_on(core, crew, task),
         Next::Over => crew.perform(core, Act::Leave(task)),
     }
 }

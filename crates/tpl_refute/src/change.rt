@@ -87,7 +87,7 @@ impl Change {
         match (self.kind, act) {
             (Kind::Events, _) | (Kind::Tasks, _) if needed.has_event(place) => Instead::Same,
             (Kind::Events, _) | (Kind::Tasks, _) => Instead::Nothing,
-            (Kind::Failures, Act::Worked(task, Answer::Failed)) => Instead::Done(task),
+            (Kind::Failures, Act::Worked(task, Answer::Failed | Answer::Canceled)) => Instead::Done(task),
             (Kind::Begins, Act::Begin(task)) if has_token(graph, task) => Instead::Dropped(task),
             (Kind::Bodies, Act::Begin(task)) => Instead::Whole(task),
             _ => Instead::Same,

@@ -78,7 +78,7 @@ fn is_least(
 
 /// A job fails.
 fn has_failure(events: &[Event]) -> bool {
-    events.iter().any(|event| matches!(event.act, Act::Worked(_, Answer::Failed)))
+    events.iter().any(|event| matches!(event.act, Act::Worked(_, Answer::Failed | Answer::Canceled)))
 }
 
 /// The smallest of the run and of those that calm runs give.

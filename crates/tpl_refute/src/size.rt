@@ -44,7 +44,7 @@ fn turns(events: &[Event]) -> usize {
 /// How much there is to read of an event.
 fn weight(event: &Event) -> usize {
     match event.act {
-        Act::Request(_) | Act::Worked(_, Answer::Failed) => 1 + CAUSE,
+        Act::Request(_) | Act::Worked(_, Answer::Failed | Answer::Canceled) => 1 + CAUSE,
         Act::Begin(_) => 1 + BODY,
         _ => 1,
     }

@@ -1,33 +1,43 @@
 -- What the readers of a run answer.
-use Rattle.std.specs.Prelude.{◌≡◌, ℕ, ◌<◌, Bool, List, Option, Some, None}
+use Rattle.std.specs.Prelude.{◌≡◌, ℕ, ◌<◌, Bool, List, [], Option, Some, None}
 use Rattle.tpl_model.specs.declared.status.Actor.{Actor}
 use Rattle.tpl_model.specs.declared.status.Status.{Status}
 use Rattle.tpl_model.specs.declared.status.Status.TheVariants.{Running}
 use Rattle.tpl_model.specs.declared.outcome.Outcome.{Outcome}
-use Rattle.tpl_model.specs.Statements.{Statements, Work, Nothing, ◌⨾◌}
+use Rattle.tpl_model.specs.Statements.{Statements, Work, Await, Wait, AwaitAny, Nothing, ◌⨾◌}
 use Rattle.tpl_model.specs.Graph.{TaskGraph, is_task}
 use Rattle.tpl_model.specs.declared.event.Act.{Act}
 use Rattle.tpl_model.specs.declared.event.Act.TheVariants.{Release, Close, Drop, Settle}
 use Rattle.tpl_model.specs.declared.event.Event.{Event}
-use Rattle.tpl_model.specs.Facts.{Rest, winner_of, rest, ending}
+use Rattle.tpl_model.specs.Facts.{Rest, stopped_by, winner_of, rest, ending}
 use Rattle.tpl_model.specs.Rules.{status, Allows}
 -- the places at which a task began and ended, counted from 1
 pub use Rattle.tpl_laws.specs.ClaimTests.{began_at as began, place_of}
 use Rattle.tpl_run.specs.declared.run.Next.{Next}
-use Rattle.tpl_run.specs.declared.run.Next.TheVariants.{NotRunning, Silent, Work as Job, Over}
+use Rattle.tpl_run.specs.declared.run.Next.TheVariants.{NotRunning, Silent, Work as Job, Await as Awaits, Over}
 
 -- what comes next in a body
 abbrev pub next_left : Statements → Next
 next_left Nothing = Over
-next_left (Work site may_fail ⨾ more) = Job (record { 0 = site })
+next_left (Work site answers ⨾ more) = Job (record { 0 = site })
+next_left (Await xs ⨾ more) = Awaits
+next_left (Wait xs ⨾ more) = Awaits
+next_left (AwaitAny xs won first second ⨾ more) = Awaits
 next_left (s ⨾ more) = Silent
+
+-- the tasks that the next statement awaits
+abbrev pub awaited_in : Statements → List ℕ
+awaited_in (Await xs ⨾ more) = xs
+awaited_in (Wait xs ⨾ more) = xs
+awaited_in (AwaitAny xs won first second ⨾ more) = xs
+awaited_in left = []
 
 abbrev pub next_in : Option Outcome → Statements → Next
 next_in (Some outcome) left = Over
 next_in None left = next_left left
 
 abbrev pub next_by : Status → Rest → Next
-next_by Running r = next_in r.outcome r.left
+next_by Running r = next_in (stopped_by r) r.left
 next_by status r = NotRunning
 
 abbrev pub next : TaskGraph → List Bool → List Event → ℕ → Next

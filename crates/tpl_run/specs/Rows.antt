@@ -1,15 +1,13 @@
 -- What is kept of each task.
-use Rattle.std.specs.Prelude.{◌≡◌, ℕ, zero, suc, Bool, false, List, [], Option, Some, None, length, map, nat_eq, slice_get, refl}
+use Rattle.std.specs.Prelude.{◌≡◌, ℕ, Bool, false, List, [], ◌∷◌, ◌||◌, Option, Some, None, length, map, nat_eq, slice_get, refl}
 use Rattle.std.specs.Option.{option_map}
 use Rattle.std.specs.Coded.{Coded, code_by, coded×, coded_ℕ, coded_list, coded_option}
 use Rattle.tpl_model.specs.declared.ids.TaskId.{TaskId}
 use Rattle.tpl_model.specs.declared.finals.Final.{Final}
 use Rattle.tpl_model.specs.declared.status.Actor.{Actor}
-use Rattle.tpl_model.specs.declared.status.Label.TheVariants.{Thrown, OperationCanceled, WorkFailed}
-use Rattle.tpl_model.specs.declared.outcome.Outcome.{Outcome}
-use Rattle.tpl_model.specs.declared.outcome.Outcome.TheVariants.{Returned, Threw, Acknowledged}
+use Rattle.tpl_model.specs.declared.outcome.UnderWay.{UnderWay}
 use Rattle.tpl_model.specs.Statements.{Statements}
-use Rattle.tpl_model.specs.Coding.{statements_code}
+use Rattle.tpl_model.specs.Coding.{statements_code, way_code}
 use Rattle.tpl_model.specs.Graph.{TaskGraph, body, kind}
 use Rattle.tpl_model.specs.declared.event.Event.{Event}
 use Rattle.tpl_model.specs.Facts.{Rest, Ending, on, ended_at_once, carried_in, rest, ending}
@@ -55,30 +53,6 @@ ending_at (Some x) = x.ending
 abbrev pub ending_in : List TaskRow → ℕ → Option Ending
 ending_in rows t = ending_at (slice_get rows t)
 
-abbrev pub outcome_number : Outcome → ℕ × ℕ
-outcome_number Returned = (0, 0)
-outcome_number Acknowledged = (1, 0)
-outcome_number (Threw (Thrown l)) = (2, l.0)
-outcome_number (Threw (OperationCanceled k)) = (3, k.0)
-outcome_number (Threw (WorkFailed s)) = (4, s.0)
-
-abbrev pub outcome_at : ℕ → ℕ → Outcome
-outcome_at zero n = Returned
-outcome_at (suc zero) n = Acknowledged
-outcome_at (suc (suc zero)) n = Threw (Thrown (record { 0 = n }))
-outcome_at (suc (suc (suc zero))) n = Threw (OperationCanceled (record { 0 = n }))
-outcome_at (suc (suc (suc (suc m)))) n = Threw (WorkFailed (record { 0 = n }))
-
-pub outcome_at-number : (o : Outcome) → outcome_at (outcome_number o).0 (outcome_number o).1 ≡ o
-outcome_at-number Returned = refl
-outcome_at-number Acknowledged = refl
-outcome_at-number (Threw (Thrown l)) = refl
-outcome_at-number (Threw (OperationCanceled k)) = refl
-outcome_at-number (Threw (WorkFailed s)) = refl
-
-abbrev pub outcome_code : Coded Outcome
-outcome_code = code_by (ℕ × ℕ) (coded× coded_ℕ coded_ℕ) outcome_number (λ p. outcome_at p.0 p.1) outcome_at-number
-
 abbrev pub ending_code : Coded Ending
 ending_code =
     code_by (ℕ × (Option Actor × (Final × (List ℕ × Option ℕ))))
@@ -89,10 +63,10 @@ ending_code =
 
 abbrev pub row_code : Coded TaskRow
 row_code =
-    code_by (Statements × (Option Outcome × (Option Ending × ℕ)))
-    (coded× statements_code (coded× (coded_option outcome_code) (coded× (coded_option ending_code) coded_ℕ)))
-    (λ x. (x.rest.left, (x.rest.outcome, (x.ending, x.room))))
-    (λ p. record { rest = record { left = p.0; outcome = p.1.0 }; ending = p.1.1.0; room = p.1.1.1 })
+    code_by (Statements × (UnderWay × (Option Ending × ℕ)))
+    (coded× statements_code (coded× way_code (coded× (coded_option ending_code) coded_ℕ)))
+    (λ x. (x.rest.left, (x.rest.way, (x.ending, x.room))))
+    (λ p. record { rest = record { left = p.0; way = p.1.0 }; ending = p.1.1.0; room = p.1.1.1 })
     (λ _. refl)
 
 -- the list of exceptions of each row has room for this many
@@ -112,6 +86,11 @@ is_it (Some s) t = nat_eq s t
 abbrev pub carries : List TaskRow → Option ℕ → ℕ → Bool
 carries rows None t = false
 carries rows (Some s) t = mem t (carried_in (ending_in rows s))
+
+-- one of these tasks carries t's exception
+abbrev pub carries_some : List TaskRow → List ℕ → ℕ → Bool
+carries_some rows [] t = false
+carries_some rows (x ∷ xs) t = carries rows (Some x) t || carries_some rows xs t
 
 -- the t-th row hasn't ended, and its list of exceptions has room for n tasks
 pub record CanEnd (rows : List TaskRow) (t n : ℕ) : Type 0 where

@@ -1,15 +1,16 @@
 //! Which events are allowed next.
 
 ghost use Rattle.std.specs.Prelude.{◌≡◌, ◌&&◌, ◌↔◌, IsTrue, Some, true, false, not};
-ghost use Rattle.tpl_model.specs.Prelude.{bound_worker, can_settle, ending, execute_synchronously, is_task, kind, options, run_continuations_asynchronously, status, token_requested, worker_of};
+ghost use Rattle.tpl_model.specs.Prelude.{bound_worker, can_settle, ending, execute_synchronously, is_task, kind, may_resume, options, rest, run_continuations_asynchronously, status, token_requested, worker_of};
 ghost use Rattle.tpl_model.specs.declared.status.Status.TheVariants as statuses;
 ghost use Rattle.tpl_model.specs.Rules as rules;
+ghost use Rattle.tpl_model.specs.declared.ids.Worker.{Worker};
 
-use crate::ends::has_ended;
+use crate::ends::{all_ended, has_ended};
 use crate::graphs::{antecedent, has_task, has_token, own_token};
 use crate::readers::{Readers, Waits};
 use tpl_graph::Kind;
-use tpl_model::{Act, Actor, Answer, Event, Status, TaskId, TokenId};
+use tpl_model::{Act, Actor, Answer, Event, Status, Stmt, TaskId, TokenId};
 
 /// The first actor, if there is one, is the second.
 fn is_by(found: Option<Actor>, actor: Actor) -> bool
@@ -33,6 +34,13 @@ fn is_outside(actor: Actor) -> bool
     ensures { IsTrue result ↔ rules.IsOutside actor }
 {
     matches!(actor, Actor::Outside(_))
+}
+
+/// The actor is a worker.
+fn is_worker(actor: Actor) -> bool
+    ensures { IsTrue result ↔ rules.IsWorker actor }
+{
+    matches!(actor, Actor::Worker(_))
 }
 
 /// A worker begins tasks, and where a task is bound to a worker only that one.
@@ -89,7 +97,7 @@ fn runs_on<R: Readers>(run: &R, actor: Actor, task: TaskId) -> bool
         ↔ rules.IsRunning j.graph j.inputs j.events actor task.0 }
 {
     has_task(run, task)
-        && is_by(run.begun(task), actor)
+        && is_by(run.runner(task), actor)
         && matches!(run.status_of(task), Status::Running)
 }
 
@@ -193,6 +201,32 @@ fn may_work<R: Readers>(run: &R, actor: Actor, task: TaskId, answer: Answer) -> 
     runs_on(run, actor, task) && run.row(task).outcome().is_none() && run.row(task).works(answer)
 }
 
+/// The tasks have ended that the next statement of a body awaits; of any, the winner has.
+fn may_go_on<R: Readers>(run: &R, task: TaskId, winner: Option<TaskId>) -> bool
+    requires { is_task (R.journal run.now).graph task.0 }
+    ensures { let j = R.journal run.now in result ≡ may_resume winner
+        (rest j.graph j.inputs j.events task.0).left (ending j.graph j.inputs j.events) }
+{
+    match (run.row(task).statement(), winner) {
+        (Some(Stmt::Await(tasks) | Stmt::Wait(tasks)), None) => all_ended(run, tasks.as_slice()),
+        (Some(Stmt::AwaitAny { tasks, .. }), Some(winner)) => {
+            tasks.as_slice().contains(&winner) && has_ended(run, winner)
+        }
+        _ => false,
+    }
+}
+
+/// A worker may go on with a body behind the tasks that it awaits.
+pub fn may_resume<R: Readers>(run: &R, task: TaskId, winner: Option<TaskId>) -> bool
+    ensures { let j = R.journal run.now in (worker : Worker) → IsTrue result
+        ↔ rules.Allows j.graph j.inputs j.events (Actor.Worker worker)
+        (Act.Resume task winner) }
+{
+    has_task(run, task)
+        && matches!(run.status_of(task), Status::Running)
+        && may_go_on(run, task, winner)
+}
+
 fn may_leave<R: Readers>(run: &R, actor: Actor, task: TaskId) -> bool
     ensures { let j = R.journal run.now in IsTrue result
         ↔ rules.Allows j.graph j.inputs j.events actor (Act.Leave task) }
@@ -249,6 +283,7 @@ pub fn allows<R: Waits>(run: &R, event: Event) -> bool
         Act::Begin(task) => may_begin(run, actor, task),
         Act::Step(task) => may_step(run, actor, task),
         Act::Worked(task, answer) => may_work(run, actor, task, answer),
+        Act::Resume(task, winner) => is_worker(actor) && may_resume(run, task, winner),
         Act::Leave(task) => may_leave(run, actor, task),
         Act::Close(task) => may_close(run, task),
         Act::Drop(task) => may_drop(run, task),

@@ -3,7 +3,7 @@
 #![tactic(auto)]
 
 pub mod allowed;
-mod body;
+pub mod body;
 pub mod due;
 pub mod ends;
 pub mod graphs;

@@ -9,7 +9,7 @@ use tpl_model::{Actor, Final, Status, TaskId, TokenId};
 pub trait Readers {
     ghost use Rattle.std.specs.Prelude.{◌≡◌};
     ghost use Rattle.tpl_model.specs.Graph.{is_task, is_token};
-    ghost use Rattle.tpl_model.specs.Facts.{requested, started, begun, ending};
+    ghost use Rattle.tpl_model.specs.Facts.{requested, started, runner, ending};
     ghost use Rattle.tpl_model.specs.Rules.{status, final, actor_in};
     ghost use Rattle.tpl_run.specs.Journal.{Journal, named, IsRunOfGraph};
     ghost use Rattle.tpl_run.specs.Rows.{row_at};
@@ -38,10 +38,10 @@ pub trait Readers {
         ensures { let j = journal self.now in result
             ≡ actor_in (ending j.graph j.inputs j.events task.0) };
 
-    /// Who began a task.
-    fn begun(&self, task: TaskId) -> Option<Actor>
+    /// Who began a task's body or last went on with it behind an await.
+    fn runner(&self, task: TaskId) -> Option<Actor>
         requires { is_task (journal self.now).graph task.0 }
-        ensures { result ≡ begun (journal self.now).events task.0 };
+        ensures { result ≡ runner (journal self.now).events task.0 };
 
     /// A statement has started the child.
     fn was_started(&self, task: TaskId) -> bool

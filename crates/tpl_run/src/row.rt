@@ -2,15 +2,18 @@
 
 ghost use Rattle.std.specs.Prelude.{◌≡◌, [], map, IfOk, MatchOption, None, vec_capacity, option_map};
 ghost use Rattle.tpl_draft.specs.Prelude.{task_number, token_number};
-ghost use Rattle.tpl_model.specs.Prelude.{BeginsWith, Nothing, actor_in, carried_in, final_in, is_observe, label_in, on, outcome_in, statement_of, steps, winner_of, worked, works};
-ghost use Rattle.tpl_run.specs.Prelude.{AreAtoms, cancel_of, ending_of, next_in, passed, place_of, start_of, with_ending, with_rest};
+ghost use Rattle.tpl_model.specs.Prelude.{BeginsWith, Nothing, actor_in, carried_in, final_in, is_observe, label_in, on, outcome_in, statement_of, steps, stopped_by, winner_of, worked, works};
+ghost use Rattle.tpl_run.specs.Prelude.{AreAtoms, awaited_in, cancel_of, ending_of, next_in, passed, passed_await, place_of, site_of, start_of, with_ending, with_rest};
 
-use crate::body;
+use crate::body::{self, Manner};
 use crate::run::Next;
 use std::alloc::{AllocError, Global};
 use std::marker::Model;
 use std::mem;
-use tpl_model::{Actor, Answer, Cursor, Final, Label, Outcome, Script, Stmt, TaskId, TokenId};
+use tpl_model::{
+    Actor, Answer, Cursor, Final, Label, Outcome, Script, SiteId, Stmt, TaskId, TokenId,
+    UnderWay,
+};
 
 /// How a task ended, beside the exceptions that it carries: its place counts events from 1 and is 0 before the first,
 /// when nobody ended it.
@@ -26,7 +29,7 @@ pub struct Ended {
 #[derive(Drop)]
 pub struct Row<'g> {
     rest: Cursor<'g>,
-    outcome: Option<Outcome>,
+    way: UnderWay,
     ended: Option<Ended>,
     carried: Vec<TaskId>,
 }
@@ -42,7 +45,7 @@ impl<'g> Model for Row<'g> {
     ghost use Rattle.tpl_run.specs.Rows.{ending_of, AreKeptAtoms};
 
     ghost view = { λ r. record {
-      rest = record { left = r.rest; outcome = r.outcome };
+      rest = record { left = r.rest; way = r.way };
       ending = ending_of r.ended r.carried.items;
       room = vec_capacity r.carried;
     } };
@@ -67,27 +70,36 @@ impl<'g> Row<'g> {
         let carried = Vec::with_capacity(alloc, room)?;
         Ok(Row {
             rest: Cursor::new(script),
-            outcome: None,
+            way: UnderWay::GoingOn,
             ended,
             carried,
         })
     }
 
     /// The task passes its next statement. `holds` is what the statement tests.
-    pub fn pass(&mut self, own: Option<TokenId>, holds: bool)
-        ensures { self.new ≡ with_rest self.old (passed (option_map token_number own) holds
-            self.old.rest.left) }
+    pub fn pass(&mut self, manner: Manner, holds: bool)
+        ensures { self.new ≡ with_rest self.old (passed manner.is_async
+            (option_map token_number manner.own) holds self.old.rest.left) }
     {
-        let outcome = body::pass(&mut self.rest, own, holds);
-        self.outcome = outcome;
+        let way = body::pass(&mut self.rest, manner, holds);
+        self.way = way;
     }
 
-    /// The task passes a job that has answered.
-    pub fn work(&mut self, answer: Answer)
-        ensures { self.new ≡ with_rest self.old (worked answer self.old.rest.left) }
+    /// The task, whose body may be async, passes a job that has answered.
+    pub fn work(&mut self, is_async: bool, answer: Answer)
+        ensures { self.new ≡ with_rest self.old (worked is_async answer self.old.rest.left) }
     {
-        let outcome = body::pass_job(&mut self.rest, answer);
-        self.outcome = outcome;
+        let way = body::pass_job(&mut self.rest, is_async, answer);
+        self.way = way;
+    }
+
+    /// The task goes on behind what it awaited: with what is thrown there, or with the list that the winner chooses.
+    pub fn resume(&mut self, thrown: UnderWay, is_winner: bool)
+        ensures { self.new ≡ with_rest self.old (passed_await thrown is_winner
+            self.old.rest.left) }
+    {
+        let way = body::resume(&mut self.rest, thrown, is_winner);
+        self.way = way;
     }
 
     /// The task ends, and takes over the list of exceptions for its own, which was empty.
@@ -103,25 +115,32 @@ impl<'g> Row<'g> {
         self.ended = Some(ended);
     }
 
-    /// The outcome of a statement that ended the body.
-    pub fn outcome(&self) -> Option<Outcome>
-        ensures { result ≡ self.now.rest.outcome }
+    /// What is under way where nothing of the body is left.
+    pub fn way(&self) -> UnderWay
+        ensures { result ≡ self.now.rest.way }
     {
-        self.outcome
+        self.way
+    }
+
+    /// The outcome with which a statement left the body.
+    pub fn outcome(&self) -> Option<Outcome>
+        ensures { result ≡ stopped_by self.now.rest }
+    {
+        self.way.outcome()
     }
 
     /// The outcome of a body that is over.
     pub fn outcome_now(&self) -> Option<Outcome>
         ensures { result ≡ outcome_in self.now.rest }
     {
-        body::outcome_now(self.outcome, &self.rest)
+        body::outcome_now(self.outcome(), &self.rest)
     }
 
     /// What the body threw.
     pub fn label(&self) -> Option<Label>
         ensures { result ≡ label_in (outcome_in self.now.rest) }
     {
-        match self.outcome {
+        match self.outcome() {
             Some(Outcome::Threw(label)) => Some(label),
             _ => None,
         }
@@ -137,9 +156,23 @@ impl<'g> Row<'g> {
 
     /// What comes next, if the task runs.
     pub fn next(&self) -> Next
-        ensures { result ≡ next_in self.now.rest.outcome self.now.rest.left }
+        ensures { result ≡ next_in (stopped_by self.now.rest) self.now.rest.left }
     {
-        body::next(self.outcome, &self.rest)
+        body::next(self.outcome(), &self.rest)
+    }
+
+    /// The site of the job that is the next statement.
+    pub fn site(&self) -> Option<SiteId>
+        ensures { option_map (λ s. s.0) result ≡ site_of self.now.rest.left }
+    {
+        body::site(&self.rest)
+    }
+
+    /// The tasks that the next statement awaits.
+    pub fn awaited(&self) -> &'g [TaskId]
+        ensures { map task_number result.now ≡ awaited_in self.now.rest.left }
+    {
+        body::awaited(&self.rest)
     }
 
     /// The token that the next statement cancels.

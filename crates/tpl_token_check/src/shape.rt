@@ -1,4 +1,4 @@
-//! Trees that fit their graph: each leaf has one row for each task, and each id is the graph's.
+//! Trees that fit their graph: it is one for these rules, each leaf has one row for each task, and each id is the graph's.
 
 ghost use Rattle.std.specs.Prelude.{◌≡◌, ◌&&◌, ℕ, length, nat_lt};
 ghost use Rattle.tpl_laws.specs.Prelude.{has_tokens, may_have_winner, rows_fit, tokens_fit, token_fits, token_misfit};
@@ -12,7 +12,7 @@ use tpl_paths::TokenSet;
 use tpl_token_leaf::both;
 use tpl_trees::{Node, Row, Tree};
 
-/// Each leaf of the tree has one row for each task, and each id in it is the graph's.
+/// The graph is one for these rules, each leaf of the tree has one row for each task, and each id in it is the graph's.
 pub(crate) fn fits(graph: &Graph, tree: &Tree) -> bool
     ensures { result ≡ token_fits graph.now.graph tree.now }
 {
@@ -32,9 +32,12 @@ pub(crate) fn fits(graph: &Graph, tree: &Tree) -> bool
             may_have_winner(graph, *task, *argument) && fits(graph, on_yes) && fits(graph, on_no)
         }
         Node::Leaf(rows) => {
-            rows.len() == graph.len() && rows_fit(graph, rows) && tokens_fit(graph, rows)
+            rows.len() == graph.len()
+                && rows_fit(graph, rows)
+                && tokens_fit(graph, rows)
+                && graph.is_early()
         }
-        Node::Least => true,
+        Node::Least => graph.is_early(),
     }
 }
 

@@ -61,7 +61,7 @@ fn add_marks(
             entries.push(slice_mark(run.alloc, "B", name, here)?)?;
             Ok(())
         }
-        Act::Step(_) | Act::Worked(_, _) => Ok(()),
+        Act::Step(_) | Act::Worked(_, _) | Act::Resume(_, _) => Ok(()),
         Act::Leave(task) => {
             add_arrows(entries, Turn { run, task, here })?;
             let name = name_of(run.graph, task);

@@ -3,8 +3,8 @@
 use crate::fast::Fast;
 use tpl_graph::Graph;
 use tpl_laws::decided::is_complete_is_right;
-use tpl_model::{Act, Event, InputId, Label, Status, TaskId, TokenId};
-use tpl_run::allowed::allows;
+use tpl_model::{Act, Actor, Event, InputId, Label, SiteId, Status, TaskId, TokenId};
+use tpl_run::allowed::{allows, may_resume};
 use tpl_run::due::next_of;
 use tpl_run::{Core, Next, Readers, Refused};
 
@@ -53,6 +53,22 @@ impl<'g> Core for Fast<'g> {
 
     fn label(&self, task: TaskId) -> Option<Label> {
         self.state.row(task).label()
+    }
+
+    fn failed(&self, site: SiteId) -> bool {
+        self.state.machine().failed(site)
+    }
+
+    fn runner(&self, task: TaskId) -> Option<Actor> {
+        Readers::runner(&self.state, task)
+    }
+
+    fn awaited(&self, task: TaskId) -> &[TaskId] {
+        self.state.row(task).awaited()
+    }
+
+    fn may_resume(&self, task: TaskId, winner: Option<TaskId>) -> bool {
+        may_resume(&self.state, task, winner)
     }
 
     fn carried(&self, task: TaskId) -> &[TaskId] {

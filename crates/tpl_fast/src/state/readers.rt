@@ -89,7 +89,7 @@ impl<'g> Readers for State<'g> {
         status_from(
             self.final_of(task),
             self.left_body(task),
-            self.begun(task),
+            self.mark(task).begun,
             before,
         )
     }
@@ -102,8 +102,8 @@ impl<'g> Readers for State<'g> {
         self.machine.ended_by(task)
     }
 
-    fn begun(&self, task: TaskId) -> Option<Actor> {
-        self.mark(task).begun
+    fn runner(&self, task: TaskId) -> Option<Actor> {
+        self.mark(task).runner
     }
 
     fn was_started(&self, task: TaskId) -> bool {

@@ -1,12 +1,12 @@
 //! The calls of `Core`.
 
 use crate::machine::Machine;
-use crate::marks::began;
+use crate::marks::{began, runner};
 use tpl_graph::Graph;
 use tpl_laws::decided::is_complete_is_right;
 use tpl_laws::is_bounded;
-use tpl_model::{Act, Event, InputId, Label, Status, TaskId, TokenId};
-use tpl_run::allowed::allows;
+use tpl_model::{Act, Actor, Event, InputId, Label, MOST_SITES, SiteId, Status, TaskId, TokenId};
+use tpl_run::allowed::{allows, may_resume};
 use tpl_run::due::next_of;
 use tpl_run::graphs::is_short;
 use tpl_run::{Core, Next, Readers, Refused};
@@ -57,6 +57,23 @@ impl<'g> Core for Machine<'g> {
 
     fn label(&self, task: TaskId) -> Option<Label> {
         self.row(task).label()
+    }
+
+    fn failed(&self, site: SiteId) -> bool {
+        let at = site.0 as usize;
+        at < MOST_SITES && self.failed[at]
+    }
+
+    fn runner(&self, task: TaskId) -> Option<Actor> {
+        runner(self.events(), task)
+    }
+
+    fn awaited(&self, task: TaskId) -> &[TaskId] {
+        self.row(task).awaited()
+    }
+
+    fn may_resume(&self, task: TaskId, winner: Option<TaskId>) -> bool {
+        may_resume(self, task, winner)
     }
 
     fn carried(&self, task: TaskId) -> &[TaskId] {

@@ -6,7 +6,7 @@ ghost use Rattle.tpl_model.specs.Prelude.{ending, place_in, winner_of};
 ghost use Rattle.tpl_run.specs.Prelude.{row_at};
 
 use crate::machine::Machine;
-use crate::marks::{begun, latest, status_open};
+use crate::marks::{latest, runner, status_open};
 use tpl_graph::Graph;
 use tpl_model::{Actor, Final, Status, TaskId, TokenId};
 use tpl_run::ends::{all_ended, all_over, some_ended};
@@ -86,8 +86,8 @@ impl<'g> Readers for Machine<'g> {
         }
     }
 
-    fn begun(&self, task: TaskId) -> Option<Actor> {
-        begun(self.events.as_slice(), task)
+    fn runner(&self, task: TaskId) -> Option<Actor> {
+        runner(self.events.as_slice(), task)
     }
 
     fn was_started(&self, task: TaskId) -> bool {

@@ -4,7 +4,7 @@ use crate::misread::form::Form;
 use crate::misread::walk::{Found, Teller};
 use json::Value;
 use tpl_json::{bool_of, find, list_of, text_in, text_of};
-use tpl_model::LONGEST_NAME;
+use tpl_model::LONGEST_EARLY_NAME;
 use tpl_reader::Version;
 
 /// What is looked for.
@@ -46,7 +46,7 @@ fn is_name(name: &str) -> bool {
     let plain = bytes
         .iter()
         .all(|byte| byte.is_ascii_alphanumeric() || *byte == b'_');
-    !digit_first && plain && bytes.len() <= LONGEST_NAME
+    !digit_first && plain && bytes.len() <= LONGEST_EARLY_NAME
 }
 
 /// The member's text; empty where there is none.

@@ -2,7 +2,7 @@
 
 use json::Value;
 use tpl_json::{find, text_in};
-use tpl_model::{MOST_ARGUMENTS, MOST_IN_CHAIN, MOST_INPUTS, MOST_TOKENS};
+use tpl_model::{MOST_ARGUMENTS, MOST_IN_CHAIN, MOST_EARLY_INPUTS, MOST_TOKENS};
 
 /// What may stand at a place of a document.
 #[derive(Clone, Copy)]
@@ -427,7 +427,7 @@ impl Form {
     /// The most elements of a list, where that is limited.
     pub(crate) fn most(self) -> Option<usize> {
         match self {
-            Form::Inputs => Some(MOST_INPUTS),
+            Form::Inputs => Some(MOST_EARLY_INPUTS),
             Form::Tokens | Form::Sources => Some(MOST_TOKENS),
             Form::Arguments => Some(MOST_ARGUMENTS),
             Form::Chain => Some(MOST_IN_CHAIN),

@@ -9,7 +9,7 @@ use json::Value;
 use std::alloc::AllocError;
 use tpl_graph::{GraphFault, OptionsFault, Why};
 use tpl_json::{list_of, member_in, text_of};
-use tpl_model::{LONGEST_NAME, MOST_LEVELS, MOST_SITES, MOST_STATEMENTS, MOST_TASKS};
+use tpl_model::{LONGEST_EARLY_NAME, MOST_LEVELS, MOST_EARLY_SITES, MOST_STATEMENTS, MOST_TASKS};
 
 const OF_CHILD: &str =
     "is a child, and no task waits for a child; wait for the task that starts it";
@@ -108,13 +108,13 @@ impl<'v, 't> Teller<'v, 't> {
     /// The line about too many jobs. Where there are few enough, the levels are too many.
     fn many_jobs_line(self, area: Area) -> Line {
         let said = format!(in self.alloc;
-            "is the {}th job of the graph, which has {MOST_SITES} at most",
-            MOST_SITES + 1
+            "is the {}th job of the graph, which has {MOST_EARLY_SITES} at most",
+            MOST_EARLY_SITES + 1
         )?;
         match self.tell(
             Area::Graph,
             Ask::Form(Form::Work),
-            MOST_SITES,
+            MOST_EARLY_SITES,
             said.as_str(),
         )? {
             None => {
@@ -131,7 +131,7 @@ impl<'v, 't> Teller<'v, 't> {
     /// The line about a text that is no name.
     fn bad_name_line(self, area: Area) -> Line {
         let said = format!(in self.alloc;
-            "is not a name: a name (label, site) is 1 to {LONGEST_NAME} ASCII letters, digits or _, and doesn't begin with a digit"
+            "is not a name: a name (label, site) is 1 to {LONGEST_EARLY_NAME} ASCII letters, digits or _, and doesn't begin with a digit"
         )?;
         self.tell(area, Ask::BadName, 0, said.as_str())
     }
