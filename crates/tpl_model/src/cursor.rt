@@ -183,17 +183,19 @@ impl<'a> Cursor<'a> {
     fn open(&mut self, left: &'a [Stmt], mark: Mark<'a>)
         requires { self.old.depth < LEVELS }
     {
+        let depth = self.depth;
         let levels = &mut self.levels[..];
-        levels[self.depth] = Level { left, mark };
-        self.depth += 1;
+        levels[depth] = Level { left, mark };
+        self.depth = depth + 1;
     }
 
     /// Puts a list in the place of the innermost one.
     fn replace(&mut self, level: Level<'a>)
         requires { 0 < self.old.depth }
     {
+        let depth = self.depth;
         let levels = &mut self.levels[..];
-        levels[self.depth - 1] = level;
+        levels[depth - 1] = level;
     }
 
     /// Goes to where the next statement stands if this is under way before what is left: enters each `try`,

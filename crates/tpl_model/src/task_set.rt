@@ -1,6 +1,6 @@
 //! Sets of tasks, of one size.
 
-ghost use Rattle.std.specs.Prelude.{◌≡◌, ℕ, ◌<◌, ◌↔◌, ◌||◌, ◌&&◌, [], ◌∷◌, nat_eq, IsTrue, MatchOption};
+ghost use Rattle.std.specs.Prelude.{◌≡◌, ℕ, ◌<◌, ◌↔◌, ◌||◌, ◌&&◌, [], ◌∷◌, nat_eq, not, IsTrue, MatchOption};
 ghost use Rattle.tpl_model.specs.Prelude.{IsSubset, IsTaskSet, SetsAreTheirMembers, mem};
 
 use crate::ids::TaskId;
@@ -64,6 +64,16 @@ impl TaskSet {
     {
         let at = task.0 as usize;
         self.words[at / WORD_BITS] |= 1 << (at % WORD_BITS);
+    }
+
+    /// Takes the task out, if it is a member.
+    pub fn remove(&mut self, task: TaskId)
+        requires { task.0 < MOST_TASKS }
+        ensures members { (x : ℕ) → mem x self.new ≡ (not (nat_eq x task.0) && mem x self.old) }
+        ensures set { IsTaskSet self.new }
+    {
+        let at = task.0 as usize;
+        self.words[at / WORD_BITS] &= !(1 << (at % WORD_BITS));
     }
 
     /// The members of either.

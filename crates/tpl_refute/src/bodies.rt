@@ -114,11 +114,23 @@ impl Bodies {
         }
     }
 
+    /// A body awaits tasks from now on, and its worker leaves it until then.
+    pub(crate) fn suspend(&mut self, actor: Actor, task: TaskId) {
+        if self.inside(actor) == Some(task) {
+            let outer = body_at(&self.outer, task);
+            self.set_inside(actor, outer);
+        }
+    }
+
     /// Notes which bodies are open after an event, and inside which one a task ended.
     pub(crate) fn note(&mut self, event: Event) {
         let inside = self.inside(event.actor);
         match event.act {
             Act::Begin(task) => {
+                put(&mut self.outer, task, inside);
+                self.set_inside(event.actor, Some(task));
+            }
+            Act::Resume(task, _) => {
                 put(&mut self.outer, task, inside);
                 self.set_inside(event.actor, Some(task));
             }
@@ -151,6 +163,28 @@ pub fn first_crossing(
             return Ok(Some(before + 1));
         }
         bodies.note(*event);
+        if let Some(task) = suspended_by(graph, *event, &events[before + 1..]) {
+            bodies.suspend(event.actor, task);
+        }
     }
     Ok(None)
+}
+
+/// The task whose body awaits others behind this event, as the later ones tell: the next of its own is that a worker goes on
+/// with it; or there is none, where bodies may await.
+fn suspended_by(graph: &Graph, event: Event, later: &[Event]) -> Option<TaskId> {
+    let task = match event.act {
+        Act::Begin(task) | Act::Step(task) | Act::Worked(task, _) | Act::Resume(task, _) => task,
+        _ => return None,
+    };
+    for next in later {
+        match next.act {
+            Act::Resume(resumed, _) if resumed == task => return Some(task),
+            Act::Step(other) | Act::Worked(other, _) | Act::Leave(other) if other == task => {
+                return None;
+            }
+            _ => {}
+        }
+    }
+    if graph.is_early() { None } else { Some(task) }
 }

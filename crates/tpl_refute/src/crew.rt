@@ -5,9 +5,9 @@ ghost use Rattle.tpl_model.specs.Prelude.{is_task};
 
 use crate::bodies::Bodies;
 use std::alloc::{AllocError, Global};
-use tpl_fast::Fast;
+use tpl_fast::{Fast, task_of};
 use tpl_graph::Graph;
-use tpl_machine::Core;
+use tpl_machine::{Core, Next};
 use tpl_model::{Act, Actor, Event, TaskId, Worker};
 
 /// Who does what waits for nobody before the first event.
@@ -46,12 +46,22 @@ fn actor_at(core: &Fast<'_>, place: u32) -> Option<Actor> {
     Some(event.actor)
 }
 
-/// Who began a task.
+/// The worker of a task's body.
 fn runner(core: &Fast<'_>, task: TaskId) -> Option<Actor> {
     if !has_task(core, task) {
         return None;
     }
-    actor_at(core, core.began(task)?)
+    core.runner(task)
+}
+
+/// The task whose body awaits others after an act of it.
+fn suspended(core: &Fast<'_>, act: Act) -> Option<TaskId> {
+    let task = task_of(act)?;
+    if has_task(core, task) && core.next(task) == Next::Await {
+        Some(task)
+    } else {
+        None
+    }
 }
 
 /// Who ended the task that this one continues.
@@ -90,6 +100,9 @@ impl Crew {
             return false;
         }
         self.bodies.note(event);
+        if let Some(task) = suspended(core, act) {
+            self.bodies.suspend(actor, task);
+        }
         true
     }
 
@@ -115,10 +128,18 @@ impl Crew {
         self.act_if(core, bound, Act::Begin(task))
     }
 
+    /// Goes on with a body behind what it awaited, by the first free worker.
+    fn resume(&mut self, core: &mut Fast<'_>, act: Act) -> bool
+        ensures { core.new.graph ≡ core.old.graph }
+    {
+        let free = self.bodies.free();
+        self.act_if(core, free, act)
+    }
+
     /// Who does an act that waits for nobody, after this event: who acted last, or a free worker.
     fn finisher(&self, last: Event) -> Actor {
         let may_be_inside = match last.act {
-            Act::Begin(_) | Act::Worked(_, _) => false,
+            Act::Begin(_) | Act::Worked(_, _) | Act::Resume(_, _) => false,
             _ => self.habit == Habit::Inside,
         };
         if may_be_inside || self.bodies.inside(last.actor).is_none() {
@@ -145,6 +166,7 @@ impl Crew {
         match act {
             Act::Request(_) => self.act_as(core, Actor::Outside(SEAT), act),
             Act::Begin(task) => self.begin(core, task),
+            Act::Resume(_, _) => self.resume(core, act),
             Act::Step(task) | Act::Worked(task, _) | Act::Leave(task) => {
                 let who = runner(core, task);
                 self.act_if(core, who, act)

@@ -1,15 +1,17 @@
 //! What a run has to keep of what a claim takes as given.
 
 use tpl_graph::Graph;
-use tpl_model::{Given, MOST_SITES, MOST_TOKENS, SiteId, TokenId};
+use tpl_model::{Given, MOST_SITES, MOST_TASKS, MOST_TOKENS, SiteId, TaskId, TaskSet, TokenId};
 
 /// What a run has to keep of what a claim takes as given: no other event mends it.
-#[derive(Clone, Copy)]
+#[derive(Drop)]
 pub(crate) struct Kept {
     /// The tokens that nobody requests.
     quiet: [bool; MOST_TOKENS],
     /// The sites whose jobs don't fail.
     sure: [bool; MOST_SITES],
+    /// The tasks that don't begin.
+    never: TaskSet,
 }
 
 /// The tokens that are requested in no run that agrees with what is given: those, and each source of one.
@@ -42,6 +44,19 @@ fn sure_sites(given: &[Given]) -> [bool; MOST_SITES] {
     sure
 }
 
+/// The tasks that begin in no run that agrees with what is given.
+fn never_begun(given: &[Given]) -> TaskSet {
+    let mut never = TaskSet::empty();
+    for one in given {
+        if let Given::Never(task) = one {
+            if task.0 < MOST_TASKS {
+                never.insert(*task);
+            }
+        }
+    }
+    never
+}
+
 fn mark(quiet: &mut [bool; MOST_TOKENS], token: TokenId) {
     let at = token.0 as usize;
     if at < MOST_TOKENS {
@@ -61,7 +76,22 @@ impl Kept {
         Kept {
             quiet: quiet_tokens(graph, given),
             sure: sure_sites(given),
+            never: never_begun(given),
         }
+    }
+
+    /// A copy.
+    pub(crate) fn copy(&self) -> Kept {
+        Kept {
+            quiet: self.quiet,
+            sure: self.sure,
+            never: self.never.copy(),
+        }
+    }
+
+    /// The task doesn't begin.
+    pub(crate) fn is_never(&self, task: TaskId) -> bool {
+        self.never.contains(task)
     }
 
     /// Nobody requests the token.

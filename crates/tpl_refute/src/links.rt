@@ -2,7 +2,7 @@
 
 use std::alloc::{AllocError, Global};
 use tpl_graph::Graph;
-use tpl_model::TaskId;
+use tpl_model::{Body, Stmt, TaskId};
 
 /// For each task those that may act once it has ended, and its children.
 #[derive(Drop)]
@@ -63,6 +63,57 @@ impl Links {
         }
         for argument in graph.args(task) {
             put(&mut self.waiters, *argument, task)?;
+        }
+        self.add_awaited(graph.body(task).body(), task)
+    }
+
+    /// Puts a task into the lists of those that its body awaits.
+    #[cycle(awaited)]
+    fn add_awaited(&mut self, body: &Body, task: TaskId) -> Result<(), AllocError> {
+        for statement in body.list() {
+            self.add_awaited_by(statement, task)?;
+        }
+        Ok(())
+    }
+
+    #[cycle(awaited)]
+    fn add_awaited_by(&mut self, statement: &Stmt, task: TaskId) -> Result<(), AllocError> {
+        match statement {
+            Stmt::Await(tasks) | Stmt::Wait(tasks) => self.add_each(tasks.as_slice(), task),
+            Stmt::AwaitAny {
+                tasks,
+                won: _,
+                first,
+                second,
+            } => {
+                self.add_each(tasks.as_slice(), task)?;
+                self.add_awaited(first, task)?;
+                self.add_awaited(second, task)
+            }
+            Stmt::If(_, first, second) | Stmt::When(_, first, second) => {
+                self.add_awaited(first, task)?;
+                self.add_awaited(second, task)
+            }
+            Stmt::Try {
+                clauses: _,
+                list,
+                canceled,
+                caught,
+                finally,
+            } => {
+                self.add_awaited(list, task)?;
+                self.add_awaited(canceled, task)?;
+                self.add_awaited(caught, task)?;
+                self.add_awaited(finally, task)
+            }
+            _ => Ok(()),
+        }
+    }
+
+    /// Puts a task into the lists of each of these.
+    fn add_each(&mut self, awaited: &[TaskId], task: TaskId) -> Result<(), AllocError> {
+        for one in awaited {
+            put(&mut self.waiters, *one, task)?;
         }
         Ok(())
     }

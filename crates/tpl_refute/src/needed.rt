@@ -148,6 +148,7 @@ impl Needed {
             Act::Drop(_) if graph.own_token(task).is_none() => self.need_antecedent(graph, task),
             Act::Settle(_) if graph.kind(task) == Kind::All => self.need_each(graph.args(task)),
             Act::Close(_) => self.need_each(graph.attached(task)),
+            Act::Resume(_, Some(winner)) => self.need(winner, Need::All),
             _ => (),
         }
     }

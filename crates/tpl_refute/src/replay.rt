@@ -3,7 +3,7 @@
 ghost use Rattle.std.specs.Prelude.{◌≡◌};
 ghost use Rattle.tpl_graph.specs.Prelude.{Fits};
 
-use crate::acting::advance;
+use crate::acting::{Choice, advance};
 use crate::budget::Budget;
 use crate::change::{Change, Instead};
 use crate::crew::{Crew, Habit};
@@ -57,7 +57,7 @@ impl Stage {
         ensures { core.new.graph ≡ core.old.graph }
     {
         self.budget.choose(1);
-        advance(core, &mut self.crew, task, &self.kept, Answer::Done)
+        advance(core, &mut self.crew, task, &self.kept, Choice::USUAL)
     }
 
     /// Does what is left of the body of a task.

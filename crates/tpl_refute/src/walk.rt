@@ -3,7 +3,7 @@
 ghost use Rattle.std.specs.Prelude.{◌≡◌};
 ghost use Rattle.tpl_graph.specs.Prelude.{Fits};
 
-use crate::acting::advance;
+use crate::acting::{Choice, advance};
 use crate::awake::Awake;
 use crate::budget::Budget;
 use crate::crew::{Crew, has_task};
@@ -15,8 +15,8 @@ use std::alloc::{AllocError, Global};
 use tpl_audit::holds;
 use tpl_fast::Fast;
 use tpl_graph::{Claim, Graph};
-use tpl_machine::Core;
-use tpl_model::{Act, Event, Finals, Given, Status, TaskId};
+use tpl_machine::{Core, Next};
+use tpl_model::{Act, Answer, Event, Finals, Given, Status, TaskId};
 
 /// How often somebody is chosen in a run at most.
 const MOST_CHOICES: u32 = 1_000_000;
@@ -50,6 +50,26 @@ impl Tables {
     }
 }
 
+/// What a task chooses where it does something next: its job may be canceled in place of a failure, and one of those wins
+/// that it awaits. In a graph whose bodies don't await and whose jobs aren't canceled nothing more is drawn.
+fn chosen(core: &Fast<'_>, dice: &mut Dice, task: TaskId, answer: Answer) -> Choice {
+    let usual = Choice { answer, winner: 0 };
+    if core.graph().is_early() || !has_task(core, task) {
+        return usual;
+    }
+    match (core.next(task), answer) {
+        (Next::Work(_), Answer::Failed) if dice.roll(2) == 0 => Choice {
+            answer: Answer::Canceled,
+            winner: 0,
+        },
+        (Next::Await, _) => Choice {
+            answer,
+            winner: dice.roll(core.awaited(task).len() as u32),
+        },
+        _ => usual,
+    }
+}
+
 /// Does what is next of a task or a token, if there is something.
 fn act(core: &mut Fast<'_>, crew: &mut Crew, mover: Mover, plan: &Plan, dice: &mut Dice) -> bool
     ensures { core.new.graph ≡ core.old.graph }
@@ -58,7 +78,8 @@ fn act(core: &mut Fast<'_>, crew: &mut Crew, mover: Mover, plan: &Plan, dice: &m
         Mover::Token(token) => crew.perform(core, Act::Request(token)),
         Mover::Task(task) => {
             let answer = plan.answer(dice, task);
-            advance(core, crew, task, &plan.kept, answer)
+            let choice = chosen(core, dice, task, answer);
+            advance(core, crew, task, &plan.kept, choice)
         }
     }
 }

@@ -1,5 +1,7 @@
 -- What the readers of a run answer.
-use Rattle.std.specs.Prelude.{◌≡◌, ℕ, ◌<◌, Bool, List, [], Option, Some, None}
+use Rattle.std.specs.Prelude.{◌≡◌, ℕ, ◌<◌, Bool, List, [], Option, Some, None, if◌then◌else◌}
+use Rattle.std.specs.Option.{option_map}
+use Rattle.tpl_model.specs.declared.ids.TaskId.{TaskId}
 use Rattle.tpl_model.specs.declared.status.Actor.{Actor}
 use Rattle.tpl_model.specs.declared.status.Status.{Status}
 use Rattle.tpl_model.specs.declared.status.Status.TheVariants.{Running}
@@ -7,10 +9,10 @@ use Rattle.tpl_model.specs.declared.outcome.Outcome.{Outcome}
 use Rattle.tpl_model.specs.Statements.{Statements, Work, Await, Wait, AwaitAny, Nothing, ◌⨾◌}
 use Rattle.tpl_model.specs.Graph.{TaskGraph, is_task}
 use Rattle.tpl_model.specs.declared.event.Act.{Act}
-use Rattle.tpl_model.specs.declared.event.Act.TheVariants.{Release, Close, Drop, Settle}
+use Rattle.tpl_model.specs.declared.event.Act.TheVariants.{Release, Resume, Close, Drop, Settle}
 use Rattle.tpl_model.specs.declared.event.Event.{Event}
-use Rattle.tpl_model.specs.Facts.{Rest, stopped_by, winner_of, rest, ending}
-use Rattle.tpl_model.specs.Rules.{status, Allows}
+use Rattle.tpl_model.specs.Facts.{Rest, Ending, stopped_by, first_ended, winner_of, rest, ending}
+use Rattle.tpl_model.specs.Rules.{status, Allows, all_ended}
 -- the places at which a task began and ended, counted from 1
 pub use Rattle.tpl_laws.specs.ClaimTests.{began_at as began, place_of}
 use Rattle.tpl_run.specs.declared.run.Next.{Next}
@@ -42,6 +44,16 @@ next_by status r = NotRunning
 
 abbrev pub next : TaskGraph → List Bool → List Event → ℕ → Next
 next g v h t = next_by (status g v h t) (rest g v h t)
+
+-- the Resume of a body of t that may go on: all that it awaits have ended, or the first that ended of any is the winner
+abbrev pub resume_by : TaskId → Status → Statements → (ℕ → Option Ending) → Option Act
+resume_by t Running (Await xs ⨾ more) ending = if all_ended xs ending then Some (Resume t None) else None
+resume_by t Running (Wait xs ⨾ more) ending = if all_ended xs ending then Some (Resume t None) else None
+resume_by t Running (AwaitAny xs won first second ⨾ more) ending = option_map (λ w. Resume t (Some (record { 0 = w }))) (first_ended xs ending)
+resume_by t status left ending = None
+
+abbrev pub resume : TaskGraph → List Bool → List Event → TaskId → Option Act
+resume g v h t = resume_by t (status g v h t.0) (rest g v h t.0).left (ending g v h)
 
 -- the argument that ended a WhenAny task
 abbrev pub winner : TaskGraph → List Bool → List Event → ℕ → Option ℕ

@@ -217,7 +217,7 @@ fn may_go_on<R: Readers>(run: &R, task: TaskId, winner: Option<TaskId>) -> bool
 }
 
 /// A worker may go on with a body behind the tasks that it awaits.
-pub fn may_resume<R: Readers>(run: &R, task: TaskId, winner: Option<TaskId>) -> bool
+fn may_resume<R: Readers>(run: &R, task: TaskId, winner: Option<TaskId>) -> bool
     ensures { let j = R.journal run.now in (worker : Worker) → IsTrue result
         ↔ rules.Allows j.graph j.inputs j.events (Actor.Worker worker)
         (Act.Resume task winner) }

@@ -1,10 +1,12 @@
 //! Whether tasks have ended.
 
-ghost use Rattle.std.specs.Prelude.{◌≡◌, ℕ, ◌&&◌, not, is_some, map, true};
+ghost use Rattle.std.specs.Prelude.{◌≡◌, ℕ, ◌&&◌, not, is_some, map, option_map, true};
 ghost use Rattle.tpl_draft.specs.Prelude.{task_number};
 ghost use Rattle.tpl_laws.specs.RunTests as laws;
-ghost use Rattle.tpl_model.specs.Prelude.{all_ended, all_over, ending, is_task, mem, some_ended, started};
+ghost use Rattle.tpl_run.specs.Prelude.{place_of};
+ghost use Rattle.tpl_model.specs.Prelude.{all_ended, all_over, earlier, ending, first_ended, is_task, mem, some_ended, started};
 
+use crate::graphs::has_task;
 use crate::readers::Readers;
 use tpl_graph::Kind;
 use tpl_model::TaskId;
@@ -41,6 +43,49 @@ pub fn some_ended<R: Readers>(run: &R, tasks: &[TaskId]) -> bool
         }
     }
     false
+}
+
+/// The place at which a task ended, if it has.
+fn place_of<R: Readers>(run: &R, task: TaskId) -> Option<u32>
+    ensures { let j = R.journal run.now in result
+        ≡ place_of (ending j.graph j.inputs j.events task.0) }
+{
+    if has_task(run, task) {
+        run.row(task).place()
+    } else {
+        None
+    }
+}
+
+/// Of these tasks the one that ended first; of those that ended before the first event, the earliest in the list.
+pub fn first_ended<R: Readers>(run: &R, tasks: &[TaskId]) -> Option<TaskId>
+    ensures { let j = R.journal run.now in option_map task_number result
+        ≡ first_ended (map task_number tasks.now) (ending j.graph j.inputs j.events) }
+{
+    let mut best = None;
+    for i in (0..tasks.len()).rev() {
+        best = earlier(run, tasks[i], best);
+    }
+    best
+}
+
+/// The one that ended first, of this task and the first so far.
+fn earlier<R: Readers>(run: &R, task: TaskId, best: Option<TaskId>) -> Option<TaskId>
+    ensures { let j = R.journal run.now in let e = ending j.graph j.inputs j.events in
+        option_map task_number result ≡ earlier e task.0 (e task.0)
+        (option_map task_number best) }
+{
+    let Some(place) = place_of(run, task) else {
+        return best;
+    };
+    let Some(other) = best else {
+        return Some(task);
+    };
+    match place_of(run, other) {
+        Some(before) if place <= before => Some(task),
+        None if place == 0 => Some(task),
+        _ => Some(other),
+    }
 }
 
 /// The child was started and hasn't ended.

@@ -4,7 +4,9 @@ use Rattle.tpl_model.specs.declared.ids.TaskId.{TaskId}
 use Rattle.tpl_model.specs.declared.event.Act.TheVariants.{Step, Leave}
 use Rattle.tpl_model.specs.Rules.{IsOutside, Complete as IsComplete}
 use Rattle.tpl_run.specs.declared.run.Next.{Next}
-use Rattle.tpl_run.specs.declared.run.Next.TheVariants.{NotRunning, Silent, Work, Over as AtEnd}
+use Rattle.tpl_run.specs.declared.run.Next.TheVariants.{NotRunning, Silent, Work, Await as Awaits, Over as AtEnd}
+use Rattle.tpl_model.specs.declared.event.Act.{Act}
+use Rattle.tpl_run.specs.Reading.{resume}
 use Rattle.tpl_machine.specs.Reading.{next}
 use Rattle.tpl_items.specs.Items.{count_of}
 use Rattle.tpl_draft.specs.Named.{Named}
@@ -63,11 +65,16 @@ pub record Keeps {W : Type 0} (turn : Turn W) (kit kit' : Kit W) : Type 0 where
 abbrev pub IsDone : Journal → Type 0
 IsDone j = IsComplete j.graph j.inputs j.events
 
+-- a worker may go on with a body behind what it awaits, if that has ended; else it may lay it aside
+abbrev pub MayGoOnBehind : Journal → SeatView → TaskId → Type 0
+MayGoOnBehind j seat t = (act : Act) → resume j.graph j.inputs j.events t ≡ Some act → MayDo j seat act
+
 -- a worker may go on with a task whose next is this: a statement that isn't a job may be passed by it, a job has an item of its site, or a body that is over may be left by it
 abbrev pub MayPass : Next → Journal → SeatView → TaskId → List ℕ → Type 0
 MayPass NotRunning j seat t sites = ⊥
 MayPass Silent j seat t sites = MayDo j seat (Step t)
 MayPass (Work site) j seat t sites = count_of sites site.0 ≡ 0 → ⊥
+MayPass Awaits j seat t sites = MayGoOnBehind j seat t
 MayPass AtEnd j seat t sites = MayDo j seat (Leave t)
 
 -- a worker may go on with the task that it runs, where items of these sites are left

@@ -12,7 +12,7 @@ use std::sync::{Arc, Condvar, Mutex};
 use tpl_graph::Graph;
 use tpl_hall::{Cells, Hall, cells};
 use tpl_items::{Children, Item, OpenWhy, Stock, refusal};
-use tpl_model::{Actor, Inputs, MOST_OUTSIDE, MOST_WORKERS};
+use tpl_model::{Actor, Inputs, MOST_OUTSIDE, MOST_WORKERS, TaskSet};
 
 /// The most seats that a session has: those of its workers, and those outside.
 const MOST_SEATS: usize = MOST_WORKERS as usize + MOST_OUTSIDE as usize;
@@ -78,6 +78,7 @@ impl<'g, K: Drop, W: Item<K>> Session<'g, K, W> {
                 shared: Mutex::new(Shared {
                     hall,
                     stock,
+                    asleep: TaskSet::empty(),
                     children,
                     seats,
                     halted: false,

@@ -2,8 +2,9 @@
 
 ghost use Rattle.std.specs.Prelude.{map};
 ghost use Rattle.tpl_hall.specs.Prelude.{MayDo};
+ghost use Rattle.tpl_model.specs.Prelude.{is_task};
 ghost use Rattle.tpl_model.specs.declared.event.Act.TheVariants.{Step, Leave};
-ghost use Rattle.tpl_runtime.specs.Prelude.{MayNext, MayRun, PlaysOn};
+ghost use Rattle.tpl_runtime.specs.Prelude.{MayGoOnBehind, MayNext, MayRun, PlaysOn};
 
 use crate::kit::Kit;
 use crate::shared::{Held, Shared, Turn};
@@ -37,6 +38,27 @@ impl<'g, K: Drop, W: Item<K>> Shared<'g, K, W> {
         Turn::Over(Ended::Stray)
     }
 
+    /// Goes on with a body behind what it awaits, or lays it aside until that has ended.
+    fn go_on<R: Wait>(&mut self, rt: &R, kit: &mut Kit<'_, W>, task: TaskId) -> Turn<W>
+        requires { is_task self.old.hall.core.graph task.0 }
+        ensures { PlaysOn result (MayGoOnBehind self.old.hall.core kit.old.seat task) kit.old kit.new
+            self.old self.new }
+    {
+        match self.hall.core().resume(task) {
+            Some(act) => {
+                if self.act(rt, kit, act) {
+                    return Turn::Go(Held::Running(task));
+                }
+                self.halt();
+                Turn::Over(Ended::Stray)
+            }
+            None => {
+                self.lay_aside(task);
+                Turn::Go(self.hand_on(kit.seat.actor()))
+            }
+        }
+    }
+
     /// Leaves a body that is over.
     fn leave<R: Wait>(&mut self, rt: &R, kit: &mut Kit<'_, W>, task: TaskId) -> Turn<W>
         ensures { PlaysOn result (MayDo self.old.hall.core kit.old.seat (Leave task)) kit.old kit.new
@@ -68,6 +90,7 @@ impl<'g, K: Drop, W: Item<K>> Shared<'g, K, W> {
                     Turn::Over(Ended::Stray)
                 }
             },
+            Next::Await => self.go_on(rt, kit, task),
             Next::Over => self.leave(rt, kit, task),
             Next::NotRunning => {
                 self.halt();
@@ -76,10 +99,16 @@ impl<'g, K: Drop, W: Item<K>> Shared<'g, K, W> {
         }
     }
 
-    /// Looks for a job.
+    /// Looks for a body that was laid aside and may go on, and then for a job.
     fn look<R: Wait>(&mut self, rt: &R, kit: &mut Kit<'_, W>) -> Turn<W>
         ensures { PlaysOn result (Unit {0}) kit.old kit.new self.old self.new }
     {
+        if let Some((task, act)) = self.awake() {
+            if self.act(rt, kit, act) {
+                self.take_up(task);
+                return Turn::Go(Held::Running(task));
+            }
+        }
         match self.find(rt, kit.queue, &mut kit.pass, kit.seat.actor()) {
             Some(task) => Turn::Go(Held::Taken(task)),
             None => Turn::Wait,

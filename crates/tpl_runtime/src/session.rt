@@ -208,6 +208,7 @@ impl<'g, K: Drop, W: Item<K>> Session<'g, K, W> {
         let Shared {
             hall,
             stock,
+            asleep: _,
             children: _,
             seats: made,
             halted: _,

@@ -1,9 +1,10 @@
 //! What the session's lock guards.
 
-ghost use Rattle.std.specs.Prelude.{◌≡◌, ◌↔◌, ◌≤◌, ◌⊎◌, ◌++◌, ◌∷◌, [], Err, None, true, IfOk, IfErr, IfSome, IsTrue, IsFalse, OnOk, OnErr, vec_capacity, vec_len};
+ghost use Rattle.std.specs.Prelude.{◌≡◌, ◌↔◌, ◌≤◌, ◌⊎◌, ◌++◌, ◌∷◌, [], Err, None, Some, true, IfOk, IfErr, IfSome, IsTrue, IsFalse, OnOk, OnErr, vec_capacity, vec_len};
 ghost use Rattle.tpl_hall.specs.Prelude.{MayAnswer, MayDo, MayEnd, is_seated};
 ghost use Rattle.tpl_hall.specs.declared.seat.SeatFault.TheVariants.{BadActor, SeatTaken};
-ghost use Rattle.tpl_model.specs.Prelude.{IsOutside, bound};
+ghost use Rattle.tpl_model.specs.Prelude.{IsOutside, bound, is_task};
+ghost use Rattle.tpl_run.specs.Prelude.{resume};
 ghost use Rattle.tpl_runtime.specs.Prelude.{IsDone, IsEnd, Proceeds};
 
 use crate::kit::Kit;
@@ -15,7 +16,7 @@ use tpl_graph::Graph;
 use tpl_hall::{Ended, Hall, Seat, SeatFault, has_seat};
 use tpl_items::{Children, Item, Receipt, Stock};
 use tpl_machine::Core;
-use tpl_model::{Act, Actor, TaskId};
+use tpl_model::{Act, Actor, MOST_TASKS, TaskId, TaskSet};
 
 /// What a worker holds when it has left the lock.
 #[derive(Clone, Copy)]
@@ -52,12 +53,13 @@ pub enum Turn<W> {
     Over(Ended),
 }
 
-/// What lies under the lock: the run, the items that weren't called and the jobs that no worker has, the children of each
-/// task, who has a seat, and whether the session is halted.
+/// What lies under the lock: the run, the items that weren't called and the jobs that no worker has, the bodies that await
+/// tasks and that no worker runs, the children of each task, who has a seat, and whether the session is halted.
 #[derive(Drop)]
 pub struct Shared<'g, K, W> {
     pub(crate) hall: Hall<'g, K>,
     pub(crate) stock: Stock<W>,
+    pub(crate) asleep: TaskSet,
     pub(crate) children: Children,
     pub(crate) seats: Vec<Actor>,
     pub(crate) halted: bool,
@@ -169,6 +171,43 @@ impl<'g, K: Drop, W: Item<K>> Shared<'g, K, W> {
         }
         let job = queue.take(rt, pass)?;
         Some(job.task)
+    }
+
+    /// A body that awaited tasks and may go on, with its Resume.
+    pub(crate) fn awake(&self) -> Option<(TaskId, Act)>
+        ensures { let j = self.now.hall.core in IfSome result (λ found.
+            (is_task j.graph found.0.0) × (resume j.graph j.inputs j.events found.0
+            ≡ Some found.1)) }
+    {
+        let core = self.hall.core();
+        for task in self.asleep.members() {
+            if (task.0 as usize) < core.graph().len() {
+                if let Some(act) = core.resume(task) {
+                    return Some((task, act));
+                }
+            }
+        }
+        None
+    }
+
+    /// Lays a body aside that awaits tasks.
+    pub(crate) fn lay_aside(&mut self, task: TaskId)
+        ensures hall { self.new.hall.core ≡ self.old.hall.core }
+        ensures halted { self.new.halted ≡ self.old.halted }
+    {
+        if task.0 < MOST_TASKS {
+            self.asleep.insert(task);
+        }
+    }
+
+    /// A worker goes on with a body that was laid aside.
+    pub(crate) fn take_up(&mut self, task: TaskId)
+        ensures hall { self.new.hall.core ≡ self.old.hall.core }
+        ensures halted { self.new.halted ≡ self.old.halted }
+    {
+        if task.0 < MOST_TASKS {
+            self.asleep.remove(task);
+        }
     }
 
     /// Whether the worker's work ends here: where the session is halted, or else the run complete.

@@ -4,8 +4,8 @@ use crate::fast::Fast;
 use tpl_graph::Graph;
 use tpl_laws::decided::is_complete_is_right;
 use tpl_model::{Act, Actor, Event, InputId, Label, SiteId, Status, TaskId, TokenId};
-use tpl_run::allowed::{allows, may_resume};
-use tpl_run::due::next_of;
+use tpl_run::allowed::allows;
+use tpl_run::due::{next_of, resume_of};
 use tpl_run::{Core, Next, Readers, Refused};
 
 impl<'g> Core for Fast<'g> {
@@ -67,8 +67,8 @@ impl<'g> Core for Fast<'g> {
         self.state.row(task).awaited()
     }
 
-    fn may_resume(&self, task: TaskId, winner: Option<TaskId>) -> bool {
-        may_resume(&self.state, task, winner)
+    fn resume(&self, task: TaskId) -> Option<Act> {
+        resume_of(&self.state, task)
     }
 
     fn carried(&self, task: TaskId) -> &[TaskId] {

@@ -6,8 +6,8 @@ use tpl_graph::Graph;
 use tpl_laws::decided::is_complete_is_right;
 use tpl_laws::is_bounded;
 use tpl_model::{Act, Actor, Event, InputId, Label, MOST_SITES, SiteId, Status, TaskId, TokenId};
-use tpl_run::allowed::{allows, may_resume};
-use tpl_run::due::next_of;
+use tpl_run::allowed::allows;
+use tpl_run::due::{next_of, resume_of};
 use tpl_run::graphs::is_short;
 use tpl_run::{Core, Next, Readers, Refused};
 
@@ -72,8 +72,8 @@ impl<'g> Core for Machine<'g> {
         self.row(task).awaited()
     }
 
-    fn may_resume(&self, task: TaskId, winner: Option<TaskId>) -> bool {
-        may_resume(self, task, winner)
+    fn resume(&self, task: TaskId) -> Option<Act> {
+        resume_of(self, task)
     }
 
     fn carried(&self, task: TaskId) -> &[TaskId] {
