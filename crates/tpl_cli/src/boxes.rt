@@ -1,9 +1,10 @@
 //! The boxes of a document's work statements.
 
-ghost use Rattle.std.specs.Prelude.{◌≡◌, false, All};
+ghost use Rattle.std.specs.Prelude.{◌≡◌, true, All};
 ghost use Rattle.tpl_cli.specs.Prelude.{ServesBoxes};
 ghost use Rattle.tpl_commands.specs.Prelude.{RequestsTokens};
 ghost use Rattle.tpl_graph.specs.Prelude.{Fits};
+ghost use Rattle.tpl_model.specs.Prelude.{may_answer};
 ghost use Rattle.tpl_reader.specs.Prelude.{doc_of};
 ghost use Rattle.tpl_report.specs.Prelude.{IsToldOf};
 
@@ -13,7 +14,7 @@ use std::sync::Wait;
 use std::thread::Threads;
 use tpl_items::{Work, WorkItem};
 use tpl_journal::Counting;
-use tpl_model::{Answer, SiteId};
+use tpl_model::{Answer, Answers, SiteId};
 use tpl_reader::Document;
 use tpl_report::{Crew, Exit, Follow, Telling, put_out_of_memory, serve_run_followed};
 
@@ -30,10 +31,10 @@ fn fails(document: &Document, site: SiteId) -> bool {
 }
 
 /// What the job of this site answers.
-fn answer_of(document: &Document, site: SiteId, may_fail: bool) -> Answer
-    ensures { may_fail ≡ false → result ≡ Answer.Done }
+fn answer_of(document: &Document, site: SiteId, answers: Answers) -> Answer
+    ensures { may_answer answers result ≡ true }
 {
-    if may_fail && fails(document, site) {
+    if answers.may_fail && fails(document, site) {
         Answer::Failed
     } else {
         Answer::Done
@@ -61,13 +62,13 @@ pub fn run_boxes<R: Threads + Wait + Sync, O: Write, F: Follow>(
     let mut items: Vec<WorkItem<Stamp>> = Vec::new(alloc);
     for number in 0..sites {
         let site = SiteId(number as u16);
-        let may_fail = document.graph.site_may_fail(site);
-        let answer = answer_of(document, site, may_fail);
+        let answers = document.graph.site_answers(site);
+        let answer = answer_of(document, site, answers);
         let Ok(work) = Box::new(alloc, move |_site: SiteId| -> Answer { answer }) else {
             break;
         };
         let work: Work = work;
-        let item = WorkItem::new(Stamp, site, may_fail, work);
+        let item = WorkItem::new(Stamp, site, answers, work);
         if items.push(item).is_err() {
             break;
         }

@@ -1,5 +1,5 @@
 -- A task graph with its names, and what its readers answer.
-use Rattle.std.specs.Prelude.{ℕ, suc, zero, ◌++◌, Bool, Option, Some, None, List, [], ◌∷◌, flat_map, map}
+use Rattle.std.specs.Prelude.{ℕ, suc, zero, ◌++◌, Bool, false, Option, Some, None, List, [], ◌∷◌, flat_map, map}
 use Rattle.tpl_model.specs.declared.status.Answers.{Answers}
 use Rattle.tpl_model.specs.Statements.{Statement, Statements, Nothing, ◌⨾◌, Work, If, When, AwaitAny, Try, Trying, Caught}
 use Rattle.tpl_model.specs.Graph.{TaskGraph, TaskKind, Continues, WhenAll, WhenAny}
@@ -47,6 +47,10 @@ abbrev mutual
 -- what the jobs of a graph may answer, in the order of the sites
 abbrev pub all_answers : TaskGraph → List Answers
 all_answers g = flat_map (λ t. answers_in t.body) g.tasks
+
+-- a job that is done and answers nothing else
+abbrev pub nothing_else : Answers
+nothing_else = record { may_fail = false; may_cancel = false }
 
 -- whether the jobs of a graph may fail, and whether they may be canceled
 abbrev pub all_may_fail : TaskGraph → List Bool

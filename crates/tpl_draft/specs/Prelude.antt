@@ -2,7 +2,7 @@
 pub use Rattle.tpl_draft.specs.Ask.{asks}
 pub use Rattle.tpl_draft.specs.Draft.{Token, count_line, count_site, each_of, each_within, levels_in, line_count, linked_to, site_count, statements_in, worked}
 pub use Rattle.tpl_draft.specs.Ids.{input_number, site_number, task_number, token_number}
-pub use Rattle.tpl_draft.specs.Named.{all_may_cancel, all_may_fail, antecedent_of, args_of}
+pub use Rattle.tpl_draft.specs.Named.{all_answers, all_may_cancel, all_may_fail, antecedent_of, args_of, nothing_else}
 pub use Rattle.tpl_draft.specs.Names.{has_name, or_zero, place, some_twice, twice_after, with_name, with_names}
 pub use Rattle.tpl_draft.specs.Numbered.{AreFew, all_named, graph_in, names_in, names_of, numbered, script_in, sites_of, statement_in, task_in, token_in}
 pub use Rattle.tpl_draft.specs.Refusals.{IsFirst, IsValid, NoneBelow, Refuses, all_starts, applies, exceeds, in_lists, is_bad_name, lacks, number, starters_from}

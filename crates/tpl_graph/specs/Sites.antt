@@ -3,7 +3,7 @@ use Rattle.std.specs.Prelude.{◌≡◌, ◌⊎◌, ℕ, suc, ◌++◌, Bool, Li
 use Rattle.tpl_model.specs.Statements.{Statement, Statements, Nothing, ◌⨾◌, Work, If, When, AwaitAny, Try, Trying, Caught, sites}
 use Rattle.tpl_model.specs.Graph.{TaskGraph, Task}
 use Rattle.tpl_graph.specs.declared.row.Site.{Site}
-use Rattle.tpl_draft.specs.Named.{all_may_fail, all_may_cancel}
+use Rattle.tpl_draft.specs.Named.{all_answers}
 
 -- the task of each site of tasks numbered from n on, in the order of the text
 abbrev pub owners_from : ℕ → List Task → List ℕ
@@ -16,8 +16,7 @@ all_owners g = owners_from 0 g.tasks
 
 -- the table of sites is the graph's
 pub record AreSites (g : TaskGraph) (sites : List Site) : Type 0 where
-  pub may_fail : map (λ (s : Site). s.answers.may_fail) sites ≡ all_may_fail g
-  pub may_cancel : map (λ (s : Site). s.answers.may_cancel) sites ≡ all_may_cancel g
+  pub answers : map (λ (s : Site). s.answers) sites ≡ all_answers g
   pub owners : map (λ (s : Site). s.owner.0) sites ≡ all_owners g
 
 -- the body has a work statement of this site, which may fail or not

@@ -1,7 +1,7 @@
 //! A valid task graph and its readers.
 
 ghost use Rattle.std.specs.Prelude.{◌≡◌, ◌<◌, ◌≤◌, length, map, position, slice_get, true, Bool, Some, IfSome, IfNone, IfOk, IfErr, IsTrue, OnOk, ◌↔◌, ℕ, option_map, bytes_eq};
-ghost use Rattle.tpl_draft.specs.Prelude.{IsValid, Refuses, all_may_cancel, all_may_fail, antecedent_of, args_of, draft_of, input_number, names_of, numbered, site_number, task_in, task_number, token_number};
+ghost use Rattle.tpl_draft.specs.Prelude.{IsValid, Refuses, all_answers, all_may_cancel, all_may_fail, antecedent_of, args_of, draft_of, input_number, names_of, numbered, site_number, task_in, task_number, token_number};
 ghost use Rattle.tpl_graph.specs.Prelude.{AreKept, AreWithin, HasWork, IsChecked, IsNamedGraph, kind_in, kind_of, task_of};
 ghost use Rattle.tpl_model.specs.Prelude.{IsParent, is_task, is_token, mem, sites};
 ghost use Rattle.tpl_model.specs.Graph as spec;
@@ -18,7 +18,7 @@ use std::alloc::{AllocError, Global};
 use std::marker::Model;
 use tpl_draft::{Draft, GraphFault, Origin, Tables};
 use tpl_model::{
-    InputId, LabelId, MOST_EVENTS, MOST_INPUTS, MOST_SITES, MOST_TASKS, MOST_TOKENS,
+    Answers, InputId, LabelId, MOST_EVENTS, MOST_INPUTS, MOST_SITES, MOST_TASKS, MOST_TOKENS,
     Options, Script, SiteId, TaskId, TokenId,
 };
 
@@ -384,6 +384,14 @@ impl Graph {
             Origin::Linked(sources) => sources.as_slice(),
             Origin::Plain => &[],
         }
+    }
+
+    /// What the job of a site may answer besides that it is done.
+    pub fn site_answers(&self, site: SiteId) -> Answers
+        requires { site.0 < length self.now.names.sites }
+        ensures { slice_get (all_answers self.now.graph) site.0 ≡ Some result }
+    {
+        self.sites[site.0 as usize].answers
     }
 
     /// Whether the job of a site may fail.

@@ -1,46 +1,39 @@
-//! Items that may fail where the graph says that their site may not, or the other way round.
+//! Items that may give another answer than the graph says that their site may give.
 
-ghost use Rattle.std.specs.Prelude.{◌≡◌, ◌↔◌, ◌<◌, ℕ, length, slice_index_or, false, IsTrue, IsFalse, IfSome, IfNone};
-ghost use Rattle.tpl_draft.specs.Prelude.{all_may_fail};
+ghost use Rattle.std.specs.Prelude.{◌≡◌, ◌<◌, ℕ, length, slice_index_or, IsTrue, IsFalse, IfSome, IfNone};
+ghost use Rattle.tpl_draft.specs.Prelude.{all_answers, nothing_else};
 ghost use Rattle.tpl_items.specs.Prelude.{SayAt, SomeDiffers};
 
 use crate::item::Item;
 use tpl_graph::Graph;
-use tpl_model::SiteId;
+use tpl_model::{Answers, SiteId};
 
-/// Both are true, or both false.
-fn same_bool(a: bool, b: bool) -> bool
-    ensures { IsTrue result ↔ (a ≡ b) }
-{
-    if a { b } else { !b }
-}
-
-/// Each item of the site says this of whether it may fail.
-fn says<K, W: Item<K>>(site: u16, may_fail: bool, items: &[W]) -> bool
-    ensures yes { IsTrue result → SayAt W.site W.may_fail site may_fail items.now }
-    ensures no { IsFalse result → SomeDiffers W.site W.may_fail site may_fail items.now }
+/// Each item of the site says this of what it may answer.
+fn says<K, W: Item<K>>(site: u16, answers: Answers, items: &[W]) -> bool
+    ensures yes { IsTrue result → SayAt W.site W.answers site answers items.now }
+    ensures no { IsFalse result → SomeDiffers W.site W.answers site answers items.now }
 {
     for item in items {
-        if item.site().0 == site && !same_bool(item.may_fail(), may_fail) {
+        if item.site().0 == site && item.answers() != answers {
             return false;
         }
     }
     true
 }
 
-/// The least site whose item and graph don't agree on whether it may fail.
+/// The least site whose item and graph don't agree on what it may answer.
 pub(crate) fn first_differing<K, W: Item<K>>(graph: &Graph, items: &[W]) -> Option<u16>
     ensures some { IfSome result (λ s. (s < length graph.now.names.sites)
-        × SomeDiffers W.site W.may_fail s (slice_index_or (all_may_fail graph.now.graph) s false)
-        items.now × ((r : ℕ) → r < s → SayAt W.site W.may_fail r (slice_index_or (all_may_fail
-        graph.now.graph) r false) items.now)) }
+        × SomeDiffers W.site W.answers s (slice_index_or (all_answers graph.now.graph) s nothing_else)
+        items.now × ((r : ℕ) → r < s → SayAt W.site W.answers r (slice_index_or (all_answers
+        graph.now.graph) r nothing_else) items.now)) }
     ensures none { IfNone result ((s : ℕ) → s < length graph.now.names.sites
-        → SayAt W.site W.may_fail s (slice_index_or (all_may_fail graph.now.graph) s false)
+        → SayAt W.site W.answers s (slice_index_or (all_answers graph.now.graph) s nothing_else)
         items.now) }
 {
     for site in 0..graph.site_count() as u16 {
-        let fails = graph.site_may_fail(SiteId(site));
-        if !says::<K, W>(site, fails, items) {
+        let answers = graph.site_answers(SiteId(site));
+        if !says::<K, W>(site, answers, items) {
             return Some(site);
         }
     }

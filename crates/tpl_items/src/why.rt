@@ -1,7 +1,7 @@
 //! Why items aren't those of a graph.
 
-ghost use Rattle.std.specs.Prelude.{◌≡◌, length, slice_index_or, false, IfSome, IfNone};
-ghost use Rattle.tpl_draft.specs.Prelude.{all_may_fail};
+ghost use Rattle.std.specs.Prelude.{◌≡◌, length, slice_index_or, IfSome, IfNone};
+ghost use Rattle.tpl_draft.specs.Prelude.{all_answers, nothing_else};
 ghost use Rattle.tpl_items.specs.Prelude.{AreItems, RefusesItems};
 ghost use Rattle.tpl_items.specs.declared.why.OpenWhy.TheVariants.{Memory};
 
@@ -26,7 +26,7 @@ pub enum OpenWhy {
     /// A site has two items.
     #[error("ItemTwice")]
     ItemTwice(SiteId),
-    /// An item says that it may fail where its site says that it may not, or the other way round.
+    /// An item says that it may give an answer that its site may not, or the other way round.
     #[error("MayFailDiffers")]
     MayFailDiffers(SiteId),
     /// The items are those of the graph, and there was no memory.
@@ -37,12 +37,12 @@ pub enum OpenWhy {
 /// Why these aren't the items of a graph, one for each of its work statements; `None` where they are. It is never
 /// `Memory`.
 pub fn refusal<K, W: Item<K>>(graph: &Graph, items: &[W]) -> Option<OpenWhy>
-    ensures some { IfSome result (λ why. RefusesItems W.site W.may_fail (length
-        graph.now.names.sites) (λ s. slice_index_or (all_may_fail graph.now.graph) s false)
+    ensures some { IfSome result (λ why. RefusesItems W.site W.answers (length
+        graph.now.names.sites) (λ s. slice_index_or (all_answers graph.now.graph) s nothing_else)
         items.now why) }
     ensures not_memory { IfSome result (λ why. why ≡ Memory → ⊥) }
-    ensures none { IfNone result (AreItems W.site W.may_fail (length graph.now.names.sites)
-        (λ s. slice_index_or (all_may_fail graph.now.graph) s false) items.now) }
+    ensures none { IfNone result (AreItems W.site W.answers (length graph.now.names.sites)
+        (λ s. slice_index_or (all_answers graph.now.graph) s nothing_else) items.now) }
 {
     let sites = graph.site_count() as u16;
     if let Some(site) = first_missing::<K, W>(sites, items) {

@@ -1,10 +1,10 @@
 //! The box of one work statement, which waits for its one call.
-ghost use Rattle.std.specs.Prelude.{◌≡◌, false};
+ghost use Rattle.std.specs.Prelude.{◌≡◌, true};
 ghost use Rattle.tpl_model.specs.declared.status.Answer.{Answer};
-ghost use Rattle.tpl_model.specs.declared.status.Answer.TheVariants.{Done};
+ghost use Rattle.tpl_model.specs.Prelude.{may_answer};
 
 use crate::receipt::Receipt;
-use tpl_model::{Answer, SiteId};
+use tpl_model::{Answer, Answers, SiteId};
 
 /// The function of a work statement. It is given the statement's site, and is called at most once, on any thread.
 pub type Work = Box<dyn FnOnce(SiteId) -> Answer + Send>;
@@ -16,29 +16,29 @@ pub type Work = Box<dyn FnOnce(SiteId) -> Answer + Send>;
 pub struct WorkItem<K> {
     stamp: K,
     site: SiteId,
-    may_fail: bool,
+    answers: Answers,
     work: Work,
     ghost callable: { Work.pre work site },
-    ghost honest: { (answer : Answer) → Work.post work site answer → may_fail ≡ false
-        → answer ≡ Done },
+    ghost honest: { (answer : Answer) → Work.post work site answer
+        → may_answer answers answer ≡ true },
 }
 
 impl<K> WorkItem<K> {
-    /// Keeps a box for the work statement `site`. The box may be called on that site, and unless the
-    /// statement may fail it answers `Done` there.
-    pub fn new(stamp: K, site: SiteId, may_fail: bool, work: Work) -> WorkItem<K>
+    /// Keeps a box for the work statement `site`. The box may be called on that site, and answers there that it is done, or
+    /// what the statement may answer besides.
+    pub fn new(stamp: K, site: SiteId, answers: Answers, work: Work) -> WorkItem<K>
         requires callable { Work.pre work site }
-        requires honest { (answer : Answer) → Work.post work site answer → may_fail ≡ false
-            → answer ≡ Done }
+        requires honest { (answer : Answer) → Work.post work site answer
+            → may_answer answers answer ≡ true }
         ensures stamp { result.stamp ≡ stamp }
         ensures site { result.site ≡ site }
-        ensures may_fail { result.may_fail ≡ may_fail }
+        ensures answers { result.answers ≡ answers }
         ensures work { result.work ≡ work }
     {
         WorkItem {
             stamp,
             site,
-            may_fail,
+            answers,
             work,
         }
     }
@@ -50,11 +50,11 @@ impl<K> WorkItem<K> {
         self.site
     }
 
-    /// Whether the box may answer `Failed`.
-    pub fn may_fail(&self) -> bool
-        ensures { result ≡ self.now.may_fail }
+    /// What the box may answer besides `Done`.
+    pub fn answers(&self) -> Answers
+        ensures { result ≡ self.now.answers }
     {
-        self.may_fail
+        self.answers
     }
 
     /// Calls the box on its site. No other function makes a receipt.
@@ -64,12 +64,12 @@ impl<K> WorkItem<K> {
 
         // The answer is one that this very call of the box may give.
         ensures answer { Work.post self.work self.site result.answer }
-        ensures done { self.may_fail ≡ false → result.answer ≡ Done }
+        ensures may { may_answer self.answers result.answer ≡ true }
     {
         let WorkItem {
             stamp,
             site,
-            may_fail: _,
+            answers: _,
             work,
         } = self;
         let answer = work(site);

@@ -14,7 +14,7 @@ pub use Rattle.tpl_model.specs.Members.{joined, mem}
 pub use Rattle.tpl_model.specs.Options.{allows, attached_to_parent, continuation_words, deny_child_attach, execute_synchronously, has_bits, lazy_cancellation, run_continuations_asynchronously, task_words, validity, words}
 pub use Rattle.tpl_model.specs.Paths.{MayEnd, MayStartChild, MayThrow, MustObserve, cancellation, is_own}
 pub use Rattle.tpl_model.specs.Recursion.{MayIsRight, MayStartIsRight, MustObserveIsRight, another, gets_through, must_observe, none, passes_by, reaches, reaches_in}
-pub use Rattle.tpl_model.specs.Rules.{IsOutside, Run, actor_in, all_ended, bound_worker, can_settle, carried, label, label_in, may_resume, read_behind, some_carry, some_ended, status, steps, subject, to_end, token_requested, token_requested_by, worker_of, works}
+pub use Rattle.tpl_model.specs.Rules.{IsOutside, Run, actor_in, all_ended, bound_worker, can_settle, carried, label, label_in, may_answer, may_resume, read_behind, some_carry, some_ended, status, steps, subject, to_end, token_requested, token_requested_by, worker_of, works}
 pub use Rattle.tpl_model.specs.Seen.{numbers_of, statement_of, statements_of}
 pub use Rattle.tpl_model.specs.Starts.{Adds, either_start, start_at, start_if, start_in, then_starts}
 pub use Rattle.tpl_model.specs.Statements.{Await, AwaitAny, Cancel, Check, Nothing, Start, Wait, Work, is_early, is_early_in, sites}

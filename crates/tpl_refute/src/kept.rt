@@ -80,15 +80,6 @@ impl Kept {
         }
     }
 
-    /// A copy.
-    pub(crate) fn copy(&self) -> Kept {
-        Kept {
-            quiet: self.quiet,
-            sure: self.sure,
-            never: self.never.copy(),
-        }
-    }
-
     /// The task doesn't begin.
     pub(crate) fn is_never(&self, task: TaskId) -> bool {
         self.never.contains(task)

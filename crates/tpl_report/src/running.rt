@@ -77,7 +77,7 @@ fn check_and_run<R: Threads + Wait + Sync, K: Drop + Send, W: Item<K> + Send, O:
     requires claims { All (Fits document.now.graph.graph) document.now.claims.items }
     requires tokens { RequestsTokens (doc_of document.now) }
     ensures { Runs telling.entry (doc_of document.now) (Some inputs) crew.entry.workers
-        (Prevents W.site W.may_fail items.items) O.contents to.old to.new result }
+        (Prevents W.site W.answers items.items) O.contents to.old to.new result }
 {
     match check_document(alloc, document) {
         Ok(verdict) => match verdict {
@@ -110,7 +110,7 @@ pub fn serve_run<R: Threads + Wait + Sync, K: Drop + Send, W: Item<K> + Send, O:
     requires claims { All (Fits document.now.graph.graph) document.now.claims.items }
     requires tokens { RequestsTokens (doc_of document.now) }
     ensures { ServesRun Telling.Report (doc_of document.now) workers
-        (Prevents W.site W.may_fail items.items) O.contents to.old to.new result }
+        (Prevents W.site W.answers items.items) O.contents to.old to.new result }
 {
     let crew: Crew<'_, Nobody> = Crew {
         workers,
@@ -140,7 +140,7 @@ pub fn serve_run_followed<
     requires claims { All (Fits document.now.graph.graph) document.now.claims.items }
     requires tokens { RequestsTokens (doc_of document.now) }
     ensures { ServesRun telling.entry (doc_of document.now) crew.entry.workers
-        (Prevents W.site W.may_fail items.items) O.contents to.old to.new result }
+        (Prevents W.site W.answers items.items) O.contents to.old to.new result }
 {
     match document.inputs() {
         Some(inputs) => check_and_run(rt, alloc, telling, document, inputs, items, crew, to),

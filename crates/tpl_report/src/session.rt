@@ -34,7 +34,7 @@ pub(crate) fn report_on<R: Threads + Wait + Sync, K: Drop + Send, W: Item<K> + S
     ensures events { IfOk result (λ r. All (CanSpell graph.now.graph) r.journal.items) }
     ensures made { IfOk result (λ r. IsMadeBy graph.now.graph inputs crew.entry.workers
         (map token_number tokens.now) r.journal.items) }
-    ensures stops { IfErr result (StopsFor (Prevents W.site W.may_fail items.items graph.now
+    ensures stops { IfErr result (StopsFor (Prevents W.site W.answers items.items graph.now
         crew.entry.workers)) }
 {
     let places = if graph.len() == 0 { 1 } else { graph.len() };

@@ -1,7 +1,7 @@
 //! How a session is opened.
 
 ghost use Rattle.std.specs.Prelude.{◌≡◌, length, slice_index_or, false, IfOk, IfErr, OnOk};
-ghost use Rattle.tpl_draft.specs.Prelude.{all_may_fail};
+ghost use Rattle.tpl_draft.specs.Prelude.{all_answers, nothing_else};
 ghost use Rattle.tpl_items.specs.Prelude.{AreItems, RefusesItems, new_tally};
 
 use crate::queue::{ItemPass, ItemQueue};
@@ -55,10 +55,10 @@ impl<'g, K: Drop, W: Item<K>> Session<'g, K, W> {
           inputs = inputs;
           queue = queue.id;
         }) }
-        ensures items { OnOk result (AreItems W.site W.may_fail (length graph.now.names.sites)
-            (λ s. slice_index_or (all_may_fail graph.now.graph) s false) items.items) }
-        ensures refused { IfErr result (λ fault. RefusesItems W.site W.may_fail (length
-            graph.now.names.sites) (λ s. slice_index_or (all_may_fail graph.now.graph) s false)
+        ensures items { OnOk result (AreItems W.site W.answers (length graph.now.names.sites)
+            (λ s. slice_index_or (all_answers graph.now.graph) s nothing_else) items.items) }
+        ensures refused { IfErr result (λ fault. RefusesItems W.site W.answers (length
+            graph.now.names.sites) (λ s. slice_index_or (all_answers graph.now.graph) s nothing_else)
             items.items fault.why) }
         ensures back { IfErr result (λ fault. fault.items ≡ items) }
     {

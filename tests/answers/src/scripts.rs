@@ -4,7 +4,7 @@ use std::alloc::{AllocError, Global};
 use tpl_graph::Graph;
 use tpl_model::{
     Cursor, Final, Finals, InputId, MOST_INPUTS, MOST_SITES, MOST_STATEMENTS, MOST_TOKENS,
-    Possible, Script, Stmt, TaskId, TokenId, Verdict, Verdicts, View, may, may_start,
+    Possible, Script, Stmt, TaskId, TokenId, UnderWay, Verdict, Verdicts, View, may, may_start,
     may_start_all, must_observe,
 };
 
@@ -91,16 +91,21 @@ fn statement_name(statement: &Stmt) -> &'static str {
         Stmt::Work(_, _) => "work",
         Stmt::If(_, _, _) => "if",
         Stmt::When(_, _, _) => "when",
+        Stmt::Await(_) => "await",
+        Stmt::Wait(_) => "wait",
+        Stmt::AwaitAny { .. } => "await any",
+        Stmt::Try { .. } => "try",
+        Stmt::Rethrow => "rethrow",
     }
 }
 
 /// Passes a statement: of a choice into the first list, where the view allows that.
 fn pass(cursor: &mut Cursor, view: &View, statement: &Stmt) {
-    match statement {
+    let _ = match statement {
         Stmt::If(input, _, _) => cursor.enter(view.may_be(*input, true)),
         Stmt::When(status, _, _) => cursor.enter(view.may_have_ended(*status)),
-        _ => cursor.pass(),
-    }
+        _ => cursor.pass(UnderWay::GoingOn),
+    };
 }
 
 /// Adds the statements of a path.
@@ -115,7 +120,7 @@ fn push_path(text: &mut String, script: &Script, view: &View) -> Result<(), Allo
         write!(text, " {}", statement_name(statement))?;
         pass(&mut cursor, view, statement);
     }
-    other.finish();
+    let _ = other.pass(UnderWay::Returning);
     if other.first().is_some() {
         text.push_str(", not finished")?;
     }

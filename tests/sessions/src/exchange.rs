@@ -11,6 +11,14 @@ use tpl_items::{JobQueue, QueuePass, WorkItem, WorkJob};
 #[derive(Drop)]
 pub struct Stamp(pub u32);
 
+/// The answers of a job that may fail, or not, and that may not be canceled.
+pub const fn failing(may_fail: bool) -> Answers {
+    Answers {
+        may_fail,
+        may_cancel: false,
+    }
+}
+
 /// What a job of the exchange does.
 pub type Items = Vec<WorkItem<Stamp>>;
 

@@ -1,6 +1,6 @@
 //! The queue, between threads and in one.
 
-use crate::exchange::{Items, Stamp, call_all, exchange_by_eight};
+use crate::exchange::{Items, Stamp, call_all, exchange_by_eight, failing};
 use std::alloc::{AllocError, Global};
 use std::io;
 use std::sync::atomic::{AtomicU64, Ordering};
@@ -16,7 +16,7 @@ const PLACES: usize = 1_000;
 /// A job with one box.
 fn job_of(alloc: Global, task: u16, stamp: u32, work: Work) -> Result<WorkJob<Stamp>, AllocError> {
     let mut items = Vec::with_capacity(alloc, 1)?;
-    items.push(WorkItem::new(Stamp(stamp), SiteId(0), true, work))?;
+    items.push(WorkItem::new(Stamp(stamp), SiteId(0), failing(true), work))?;
     Ok(Job {
         task: TaskId(task),
         items,
@@ -33,8 +33,8 @@ fn receipt_at(alloc: Global, site: SiteId) -> Result<Option<Answer>, AllocError>
             Answer::Done
         }
     })?;
-    let item = WorkItem::new(Stamp(7), site, true, work);
-    let asked = item.site() == site && item.may_fail();
+    let item = WorkItem::new(Stamp(7), site, failing(true), work);
+    let asked = item.site() == site && item.answers() == failing(true);
     let receipt = item.call();
     if asked && receipt.stamp().0 == 7 && receipt.site() == site {
         Ok(Some(receipt.answer()))

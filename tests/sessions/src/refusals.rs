@@ -1,6 +1,6 @@
 //! What sessions refuse: items that aren't those of the graph, and counts of workers.
 
-use crate::exchange::Stamp;
+use crate::exchange::{Stamp, failing};
 use crate::graphs::{Attempt, check_on};
 use crate::opened::{opened, places};
 use crate::shut::shut;
@@ -73,7 +73,7 @@ fn are_given(items: &[WorkItem<Stamp>], given: &[Given]) -> bool {
     let mut all = items.len() == given.len();
     for at in 0..given.len() {
         if let (Some(item), Some((site, may_fail))) = (items.get(at), given.get(at)) {
-            let same = item.site().0 == *site && item.may_fail() == *may_fail;
+            let same = item.site().0 == *site && item.answers() == failing(*may_fail);
             all = all && same;
         }
     }

@@ -247,13 +247,13 @@ pub fn plays_scene<R: Wait>(
     for number in 0..graph.site_count() {
         let site = SiteId(number as u16);
         let work: Work = Box::new(alloc, |_site: SiteId| -> Answer { Answer::Done })?;
-        items.push(WorkItem::new(Stamp(0), site, graph.site_may_fail(site), work))?;
+        items.push(WorkItem::new(Stamp(0), site, graph.site_answers(site), work))?;
     }
     let mut others: Vec<WorkItem<Stamp>> = Vec::new(alloc);
     for number in 0..smaller.site_count() {
         let site = SiteId(number as u16);
         let work: Work = Box::new(alloc, |_site: SiteId| -> Answer { Answer::Done })?;
-        others.push(WorkItem::new(Stamp(1), site, smaller.site_may_fail(site), work))?;
+        others.push(WorkItem::new(Stamp(1), site, smaller.site_answers(site), work))?;
     }
     Ok(plays_with(rt, alloc, graph, items, smaller, others, script, closing))
 }

@@ -12,6 +12,7 @@ fn push_next(text: &mut String, graph: &Graph, next: Next) -> Result<(), AllocEr
         Next::NotRunning => Ok(()),
         Next::Silent => text.push_str(", next statement"),
         Next::Over => text.push_str(", next end"),
+        Next::Await => text.push_str(", next await"),
         Next::Work(site) => write!(text, ", next job {}", site_name(graph, site)),
     }
 }

@@ -1,6 +1,6 @@
 //! Runs of documents as a caller of the library makes them: boxes that wait for each other, and what isn't run.
 
-use crate::exchange::Stamp;
+use crate::exchange::{Stamp, failing};
 use crate::graphs::tell;
 use crate::meeting::{flags_of, meet};
 use crate::refusals::Given;
@@ -149,7 +149,7 @@ fn ends_met<R: Threads + Wait + Sync>(
         let work: Work = Box::new(alloc, move |site: SiteId| -> Answer {
             meet(own.as_slice(), site, true)
         })?;
-        items.push(WorkItem::new(Stamp(0), SiteId(number as u16), true, work))?;
+        items.push(WorkItem::new(Stamp(0), SiteId(number as u16), failing(true), work))?;
     }
     Ok(ends(rt, alloc, document, items, case))
 }
@@ -165,7 +165,7 @@ fn ends_given<R: Threads + Wait + Sync>(
     let mut items: Vec<WorkItem<Stamp>> = Vec::new(alloc);
     for (site, may_fail) in given {
         let work: Work = Box::new(alloc, |_site: SiteId| -> Answer { Answer::Done })?;
-        items.push(WorkItem::new(Stamp(0), SiteId(*site), *may_fail, work))?;
+        items.push(WorkItem::new(Stamp(0), SiteId(*site), failing(*may_fail), work))?;
     }
     Ok(ends(rt, alloc, document, items, case))
 }

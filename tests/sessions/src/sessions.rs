@@ -128,7 +128,7 @@ pub fn tried<R: Threads + Wait + Sync>(
     for number in 0..graph.site_count() {
         let site = SiteId(number as u16);
         let work: Work = Box::new(alloc, |_site: SiteId| -> Answer { Answer::Done })?;
-        items.push(WorkItem::new(Stamp(number as u32), site, graph.site_may_fail(site), work))?;
+        items.push(WorkItem::new(Stamp(number as u32), site, graph.site_answers(site), work))?;
     }
     Ok(tries(rt, alloc, graph, items, trial))
 }

@@ -2,6 +2,7 @@
 //! writes nothing of them: the quickest of several runs of each.
 
 use crate::crews::with_workers;
+use crate::exchange::failing;
 use crate::opened::opened;
 use crate::pool::run_pool;
 use crate::spins::{answer_after, rounds_a_microsecond};
@@ -99,7 +100,7 @@ fn run_once<R: Threads + Wait + Sync + Clock>(
             answer_after(rounds)
         })?;
         let work: Work = work;
-        items.push(WorkItem::new((), SiteId(number as u16), true, work))?;
+        items.push(WorkItem::new((), SiteId(number as u16), failing(true), work))?;
     }
     match by {
         By::Session => match opened(alloc, graph, items) {
