@@ -1,6 +1,5 @@
 -- Where statements may stand that await, return or throw again, and which tasks may be awaited.
-use Rattle.std.specs.Prelude.{◌≡◌, ℕ, ◌<◌, ◌≤◌, ◌⊎◌, ◌&&◌, ◌||◌, not, Bool, true, false, Option, Some, None, List, [], ◌∷◌, length, nat_eq, if◌then◌else◌}
-use Rattle.tpl_model.specs.declared.clauses.Clauses.{Clauses}
+use Rattle.std.specs.Prelude.{◌≡◌, ℕ, ◌<◌, ◌≤◌, ◌⊎◌, ◌&&◌, ◌||◌, not, Bool, true, false, Option, Some, None, List, [], ◌∷◌, length, nat_eq}
 use Rattle.tpl_model.specs.declared.limits.TheConstants.{MOST_ARGUMENTS}
 use Rattle.tpl_model.specs.Members.{mem}
 use Rattle.tpl_model.specs.Statements.{Statement, Return, Throw, Start, If, When, Await, Wait, AwaitAny, Try, Rethrow, Statements, Nothing, ◌⨾◌}

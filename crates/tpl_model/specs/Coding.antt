@@ -41,7 +41,6 @@ final_at-number RanToCompletion = refl
 final_at-number Canceled = refl
 final_at-number Faulted = refl
 
--- a number of a small list of trees
 abbrev pub numbers_tree : List ℕ → Gv
 numbers_tree [] = gnil
 numbers_tree (x ∷ xs) = gcons (gnum x) (numbers_tree xs)

@@ -41,11 +41,11 @@ abbrev pub Passage : Type 0
 Passage = Statements → (UnderWay → Rest) → UnderWay → Rest
 
 -- a finally is come to, which goes on with what is under way
-abbrev pub by_finally : Passage → Passage
+abbrev pub by_finally : Passage → Statements → (UnderWay → Rest) → UnderWay → Rest
 by_finally finally more behind way = finally (Leaving way ⨾ more) (λ newer. behind (taking_over way newer)) GoingOn
 
 -- the list of a try is over, or is left: what is thrown goes to the first clause that catches it, else the finally comes
-abbrev pub by_clauses : Clauses → Passage → Passage → Statements → Passage → Passage
+abbrev pub by_clauses : Clauses → Passage → Passage → Statements → Passage → Statements → (UnderWay → Rest) → UnderWay → Rest
 by_clauses c canceled caught list finally more behind way =
     if c.catch_canceled && is_canceling way
     then canceled (Caught way list ⨾ more) (by_finally finally more behind) GoingOn
@@ -54,11 +54,11 @@ by_clauses c canceled caught list finally more behind way =
 -- what is left if this is under way before these statements, and then come more: a try is entered and a mark is passed
 -- at once, and what goes outwards passes all else
 abbrev mutual
-  pub left_of : Statements → Passage
+  pub left_of : Statements → Statements → (UnderWay → Rest) → UnderWay → Rest
   left_of Nothing more behind way = behind way
   left_of (s ⨾ rest) more behind way = left_from s (followed_by rest more) (left_of rest more behind) way
 
-  pub left_from : Statement → Passage
+  pub left_from : Statement → Statements → (UnderWay → Rest) → UnderWay → Rest
   left_from (Trying c canceled caught finally) more behind way =
       by_clauses c (left_of canceled) (left_of caught) finally (left_of finally) more behind way
   left_from (Caught thrown finally) more behind way = by_finally (left_of finally) more behind way

@@ -5,6 +5,7 @@ use std::sync::Wait;
 use std::sync::atomic::{AtomicU64, Ordering};
 use std::thread;
 use std::thread::Threads;
+use tpl_model::Answers;
 use tpl_items::{JobQueue, QueuePass, WorkItem, WorkJob};
 
 /// A stamp that can be neither copied nor cloned.

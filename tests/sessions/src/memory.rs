@@ -304,7 +304,7 @@ pub fn plays_graph<R: Print + Threads + Wait + Sync>(
     for number in 0..graph.site_count() {
         let site = SiteId(number as u16);
         let work: Work = Box::new(alloc, |_site: SiteId| -> Answer { Answer::Done })?;
-        items.push(WorkItem::new(Stamp(0), site, graph.site_may_fail(site), work))?;
+        items.push(WorkItem::new(Stamp(0), site, graph.site_answers(site), work))?;
     }
     opens(rt, alloc, graph, items)
 }

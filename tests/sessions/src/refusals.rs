@@ -108,7 +108,7 @@ pub fn refuses_given(
     let mut items: Vec<WorkItem<Stamp>> = Vec::new(alloc);
     for (site, may_fail) in given {
         let work: Work = Box::new(alloc, |_site: SiteId| -> Answer { Answer::Done })?;
-        items.push(WorkItem::new(Stamp(0), SiteId(*site), *may_fail, work))?;
+        items.push(WorkItem::new(Stamp(0), SiteId(*site), failing(*may_fail), work))?;
     }
     Ok(refuses(alloc, graph, items, given, why))
 }
