@@ -1,3 +1,4 @@
+pub mod Scales
 pub mod Names
 pub mod Twice
 pub mod Ids
