@@ -10,13 +10,16 @@ mod check;
 mod claim;
 mod collect;
 mod early;
+mod families;
 mod fits;
 mod graph;
+mod placed;
 mod role;
 mod row;
 mod rows;
 mod same;
 mod starters;
+mod sure;
 mod tables;
 
 pub use claim::Claim;
@@ -25,6 +28,6 @@ pub use graph::Graph;
 pub use role::Role;
 pub use row::Kind;
 pub use tpl_draft::{
-    Draft, DraftBody, DraftKind, DraftStmt, DraftTask, DraftToken, DraftWork, GraphFault,
-    OptionsFault, Why,
+    Draft, DraftBody, DraftKind, DraftStmt, DraftTask, DraftToken, DraftWork, GraphFault, Names,
+    OptionsFault, Scale, Why, number_names,
 };
