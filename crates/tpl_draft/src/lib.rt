@@ -35,7 +35,7 @@ pub use ask::Declared;
 pub use declaring::declare;
 pub use draft::{Draft, DraftBody, DraftKind, DraftStmt, DraftTask, DraftToken, DraftWork};
 pub use fault::{GraphFault, OptionsFault, Why};
-pub use names::{Names, NamesFault, Tables};
+pub use names::{Names, NamesFault, Tables, number_names};
 pub use numbering::{number_body, task_id, task_ids, token_id};
 pub use origin::Origin;
 pub use refusals::{Test, first_where, why_of};

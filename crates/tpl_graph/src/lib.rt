@@ -23,11 +23,11 @@ mod sure;
 mod tables;
 
 pub use claim::Claim;
-pub use fits::{given_twice, have_bodies};
+pub use fits::{given_bodies, given_twice, have_bodies};
 pub use graph::Graph;
 pub use role::Role;
 pub use row::Kind;
 pub use tpl_draft::{
     Draft, DraftBody, DraftKind, DraftStmt, DraftTask, DraftToken, DraftWork, GraphFault, Names,
-    OptionsFault, Scale, Why, number_names,
+    NamesFault, OptionsFault, Scale, Why, number_names,
 };
