@@ -1,3 +1,4 @@
+pub mod Scales
 pub mod Names
 pub mod Twice
 pub mod Ids
@@ -10,6 +11,7 @@ pub mod SeenDraft
 pub mod FallsDraft
 pub mod SeenTasks
 pub mod Numbered
+pub mod Awaiting
 pub mod Refusals
 pub mod Ask
 pub mod Test

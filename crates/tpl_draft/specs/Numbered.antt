@@ -1,5 +1,5 @@
 -- What a draft spells: the graph in which each name is its number in declared order.
-use Rattle.std.specs.Prelude.{ℕ, ◌≤◌, false, List, [], ◌∷◌, Option, Some, None, map, flat_map, length}
+use Rattle.std.specs.Prelude.{ℕ, ◌≤◌, List, [], ◌∷◌, Option, Some, None, map, flat_map, length}
 use Rattle.tpl_model.specs.declared.limits.TheConstants.{MOST_INPUTS, MOST_SITES, MOST_TASKS, MOST_TOKENS}
 use Rattle.std.specs.Option.{option_map}
 use Rattle.tpl_model.specs.Statements.{Statement, Statements}
@@ -9,7 +9,7 @@ use Rattle.tpl_draft.specs.declared.sort.Sort.{Sort}
 use Rattle.tpl_draft.specs.declared.sort.Sort.TheVariants.{Labels, Sites}
 use Rattle.tpl_draft.specs.Names.{place, with_names}
 use Rattle.tpl_draft.specs.Named.{Names, Named}
-use Rattle.tpl_draft.specs.Draft.{Line, Lines, Return, Throw, Check, Cancel, Start, Observe, Work, If, When, Nothing, Then, Kind, Root, Child, Continues, WhenAll, WhenAny, Task, Token, Draft, worked, statements_in}
+use Rattle.tpl_draft.specs.Draft.{Line, Lines, Return, Throw, Check, Cancel, Start, Observe, Work, If, When, Await, Wait, AwaitAny, Try, Rethrow, Nothing, Then, Kind, Root, Child, Continues, WhenAll, WhenAny, Task, Token, Draft, worked, statements_in}
 
 -- a body with numbers in place of names
 abbrev mutual
@@ -24,9 +24,15 @@ abbrev mutual
   statement_in n (Cancel k) = script.Cancel (place n.tokens k)
   statement_in n (Start c) = script.Start (place n.tasks c)
   statement_in n Observe = script.Observe
-  statement_in n (Work s may_fail) = script.Work (place n.sites s) (record { may_fail = may_fail; may_cancel = false })
+  statement_in n (Work s answers) = script.Work (place n.sites s) answers
   statement_in n (If i a b) = script.If (place n.inputs i) (script_in n a) (script_in n b)
   statement_in n (When f a b) = script.When f (script_in n a) (script_in n b)
+  statement_in n (Await xs) = script.Await (map (place n.tasks) xs)
+  statement_in n (Wait xs) = script.Wait (map (place n.tasks) xs)
+  statement_in n (AwaitAny xs won a b) =
+      script.AwaitAny (map (place n.tasks) xs) (option_map (place n.tasks) won) (script_in n a) (script_in n b)
+  statement_in n (Try c list a b d) = script.Try c (script_in n list) (script_in n a) (script_in n b) (script_in n d)
+  statement_in n Rethrow = script.Rethrow
 
 -- the name, where labels are collected
 abbrev pub label_names : Sort → List ℕ → List (List ℕ)
@@ -41,7 +47,7 @@ site_names Sites name = name ∷ []
 -- the label or the site of a statement
 abbrev pub names_in : Sort → Line → List (List ℕ)
 names_in sort (Throw l) = label_names sort l
-names_in sort (Work s may_fail) = site_names sort s
+names_in sort (Work s answers) = site_names sort s
 names_in sort s = []
 
 -- the labels of all `throw`s, or all sites, in the order of the text over the tasks
@@ -77,7 +83,7 @@ task_in n t = record {
   body = script_in n (worked t.kind).body;
   token = option_map (place n.tokens) (worked t.kind).token;
   options = (worked t.kind).options;
-  is_async = false;
+  is_async = (worked t.kind).is_async;
 }
 
 -- a token, by the tokens to which it is linked, if it is

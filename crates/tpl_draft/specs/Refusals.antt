@@ -1,19 +1,23 @@
 -- Why a draft spells no graph: each refusal, where it applies, and which one is answered.
 use Rattle.std.specs.Prelude.{◌≡◌, ℕ, suc, zero, ◌<◌, ◌⊎◌, ◌&&◌, ◌||◌, Bool, true, false, not, ◌==◌, List, [], ◌∷◌, ◌++◌, Option, Some, None, map, length, take, slice_get, nat_eq, nat_lt, nat_le, is_some, sum_by, if◌then◌else◌}
 use Rattle.std.specs.List.{list_any, list_all}
-use Rattle.tpl_model.specs.declared.limits.TheConstants.{LONGEST_EARLY_NAME, MOST_ARGUMENTS, MOST_EARLY_INPUTS, MOST_LEVELS, MOST_EARLY_SITES, MOST_STATEMENTS, MOST_TASKS, MOST_TOKENS}
+use Rattle.tpl_model.specs.declared.limits.TheConstants.{LONGEST_NAME, MOST_ARGUMENTS, MOST_FINALLYS, MOST_LEVELS, MOST_STATEMENTS, MOST_TASKS, MOST_TOKENS}
 use Rattle.tpl_model.specs.Options.{has_bits, excludes_all, long_and_sync}
 use Rattle.tpl_model.specs.Statements.{starts}
 use Rattle.tpl_model.specs.Graph as graph
 use Rattle.tpl_model.specs.Valid.{option_words}
+use Rattle.tpl_model.specs.Awaits.{are_placed, awaits_nothing, none_started}
+use Rattle.tpl_draft.specs.declared.scale.Scale.{Scale}
 use Rattle.tpl_draft.specs.declared.fault.OptionsFault.{OptionsFault}
 use Rattle.tpl_draft.specs.declared.fault.OptionsFault.TheVariants.{ExcludesAll, LongAndSync, WrongKind}
 use Rattle.tpl_draft.specs.declared.fault.Why.{Why}
 use Rattle.tpl_draft.specs.declared.fault.Why.TheVariants as why
 use Rattle.tpl_draft.specs.declared.fault.GraphFault.{GraphFault}
+use Rattle.tpl_draft.specs.Scales.{longest_name, most_inputs, most_sites}
 use Rattle.tpl_draft.specs.Names.{has_name, some_twice, place}
+use Rattle.tpl_draft.specs.Awaiting.{awaits_started}
 use Rattle.tpl_draft.specs.Numbered.{names_of, sites_of, graph_in}
-use Rattle.tpl_draft.specs.Draft.{Line, Throw, Check, Cancel, Start, Observe, Work, If, When, line_count, site_count, levels, Kind, Root, Child, Continues, WhenAny, Task, Token, Draft, worked, statements_in, waits_for, linked_to}
+use Rattle.tpl_draft.specs.Draft.{Line, Lines, Throw, Check, Cancel, Start, Observe, Work, If, When, Await, Wait, AwaitAny, line_count, site_count, levels, finallys, Kind, Root, Child, Continues, WhenAny, Task, Token, Draft, worked, statements_in, waits_for, linked_to}
 
 -- a letter, a digit or `_`
 abbrev pub is_digit : ℕ → Bool
@@ -28,23 +32,32 @@ abbrev pub begins_with_digit : List ℕ → Bool
 begins_with_digit [] = false
 begins_with_digit (c ∷ cs) = is_digit c
 
--- letters, digits or `_`, at least one and not too many, not beginning with a digit
+-- letters, digits or `_`, at least one and no more than this, not beginning with a digit
+abbrev pub is_name_within : (longest : ℕ) → List ℕ → Bool
+is_name_within longest t = ((nat_lt 0 (length t) && nat_le (length t) longest) && list_all is_word t) && not (begins_with_digit t)
+
+-- a name of some document
 abbrev pub is_name : List ℕ → Bool
-is_name t = ((nat_lt 0 (length t) && nat_le (length t) LONGEST_EARLY_NAME) && list_all is_word t) && not (begins_with_digit t)
+is_name t = is_name_within LONGEST_NAME t
 
 -- the text is no name
-abbrev pub is_bad_name : List ℕ → Bool
-is_bad_name t = not (is_name t)
+abbrev pub is_bad_name : Scale → List ℕ → Bool
+is_bad_name scale t = not (is_name_within (longest_name scale) t)
 
 -- the label or site of a statement is no name
-abbrev pub says_bad_name : Line → Bool
-says_bad_name (Throw l) = is_bad_name l
-says_bad_name (Work s may_fail) = is_bad_name s
-says_bad_name s = false
+abbrev pub says_bad_name : Scale → Line → Bool
+says_bad_name scale (Throw l) = is_bad_name scale l
+says_bad_name scale (Work s answers) = is_bad_name scale s
+says_bad_name scale s = false
 
 -- the name isn't declared
 abbrev pub lacks : List (List ℕ) → List ℕ → Bool
 lacks names name = not (has_name names name)
+
+-- there is a name, and it isn't declared
+abbrev pub is_missing : List (List ℕ) → Option (List ℕ) → Bool
+is_missing names None = false
+is_missing names (Some name) = lacks names name
 
 -- a statement names an input, a token or a task that isn't declared
 abbrev pub says_unknown : (inputs tokens tasks : List (List ℕ)) → Line → Bool
@@ -52,12 +65,10 @@ says_unknown inputs tokens tasks (Check k) = lacks tokens k
 says_unknown inputs tokens tasks (Cancel k) = lacks tokens k
 says_unknown inputs tokens tasks (Start c) = lacks tasks c
 says_unknown inputs tokens tasks (If i a b) = lacks inputs i
+says_unknown inputs tokens tasks (Await xs) = list_any (lacks tasks) xs
+says_unknown inputs tokens tasks (Wait xs) = list_any (lacks tasks) xs
+says_unknown inputs tokens tasks (AwaitAny xs won a b) = list_any (lacks tasks) xs || is_missing tasks won
 says_unknown inputs tokens tasks s = false
-
--- there is a name, and it isn't declared
-abbrev pub is_missing : List (List ℕ) → Option (List ℕ) → Bool
-is_missing names None = false
-is_missing names (Some name) = lacks names name
 
 -- there is a task, and the property is true of it
 abbrev pub at_task : {A : Type 0} → (A → Bool) → Option A → Bool
@@ -142,9 +153,21 @@ abbrev pub some_misplaced : ℕ → List graph.Token → Bool
 some_misplaced k [] = false
 some_misplaced k (x ∷ more) = is_misplaced k x || some_misplaced (suc k) more
 
--- a task past the last that a graph may have, or with more arguments, statements or levels than it may have
+-- a statement awaits more tasks than one may wait for
+abbrev pub awaits_many : Line → Bool
+awaits_many (Await xs) = nat_lt MOST_ARGUMENTS (length xs)
+awaits_many (Wait xs) = nat_lt MOST_ARGUMENTS (length xs)
+awaits_many (AwaitAny xs won a b) = nat_lt MOST_ARGUMENTS (length xs)
+awaits_many s = false
+
+-- a body has more statements, levels, or finallys in one another than it may have
+abbrev pub is_too_much : Lines → Bool
+is_too_much b = (nat_lt MOST_STATEMENTS (line_count b) || nat_lt MOST_LEVELS (levels b)) || nat_lt MOST_FINALLYS (finallys b)
+
+-- a task past the last that a graph may have, one with more arguments than it may have, with too much of a body, or with
+-- a statement that awaits too many tasks
 abbrev pub exceeds : ℕ → Task → Bool
-exceeds t x = (nat_eq t MOST_TASKS || nat_lt MOST_ARGUMENTS (length (waits_for x.kind))) || (nat_lt MOST_STATEMENTS (line_count (worked x.kind).body) || nat_lt MOST_LEVELS (levels (worked x.kind).body))
+exceeds t x = (nat_eq t MOST_TASKS || nat_lt MOST_ARGUMENTS (length (waits_for x.kind))) || (is_too_much (worked x.kind).body || list_any awaits_many (statements_in x))
 
 -- the sites of a list of tasks
 abbrev pub site_total : List Task → ℕ
@@ -152,8 +175,8 @@ site_total tasks = sum_by (λ (x : Task). site_count (worked x.kind).body) tasks
 
 -- a refusal applies to the lists of inputs and tokens
 abbrev pub in_lists : Draft → Why → Bool
-in_lists d why.TooMany = (nat_lt MOST_EARLY_INPUTS (length d.inputs) || nat_lt MOST_TOKENS (length d.tokens)) || list_any (λ (k : Token). nat_lt MOST_TOKENS (length (linked_to k.linked))) d.tokens
-in_lists d why.BadName = list_any is_bad_name (names_of d).inputs || list_any is_bad_name (names_of d).tokens
+in_lists d why.TooMany = (nat_lt (most_inputs d.scale) (length d.inputs) || nat_lt MOST_TOKENS (length d.tokens)) || list_any (λ (k : Token). nat_lt MOST_TOKENS (length (linked_to k.linked))) d.tokens
+in_lists d why.BadName = list_any (is_bad_name d.scale) (names_of d).inputs || list_any (is_bad_name d.scale) (names_of d).tokens
 in_lists d why.NameTwice = some_twice (names_of d).inputs || some_twice (names_of d).tokens
 in_lists d why.Unknown = list_any (λ (k : Token). list_any (lacks (names_of d).tokens) (linked_to k.linked)) d.tokens
 in_lists d why.LinkPlace = some_misplaced 0 (graph_in (names_of d) d).tokens
@@ -161,8 +184,8 @@ in_lists d w = false
 
 -- a refusal applies to the t-th task
 abbrev pub in_task : Draft → Why → ℕ → Task → Bool
-in_task d why.TooMany t x = exceeds t x || nat_lt MOST_EARLY_SITES (site_total (take (suc t) d.tasks))
-in_task d why.BadName t x = is_bad_name x.name || list_any says_bad_name (statements_in x)
+in_task d why.TooMany t x = exceeds t x || nat_lt (most_sites d.scale) (site_total (take (suc t) d.tasks))
+in_task d why.BadName t x = is_bad_name d.scale x.name || list_any (says_bad_name d.scale) (statements_in x)
 in_task d why.NameTwice t x = has_name (take t (names_of d).tasks) x.name
 in_task d why.Unknown t x =
     (is_missing (names_of d).tokens (worked x.kind).token || list_any (lacks (names_of d).tasks) (waits_for x.kind))
@@ -176,6 +199,9 @@ in_task d why.ChildPlace t x =
 in_task d why.SiteTwice t x = some_twice (sites_of (take (suc t) d.tasks))
 in_task d (why.Option f) t x = is_some (options_fault_of x)
 in_task d why.ObserveNothing t x = not (is_continuation x.kind) && list_any reads_subject (statements_in x)
+in_task d why.NotAsync t x = not (worked x.kind).is_async && not (awaits_nothing (graph.body (graph_in (names_of d) d) t))
+in_task d why.BadPlace t x = not (are_placed false false (graph.body (graph_in (names_of d) d) t))
+in_task d why.NotStarted t x = not (awaits_started (graph_in (names_of d) d) t (graph.body (graph_in (names_of d) d) t) none_started)
 in_task d w t x = false
 
 -- a refusal applies at 0, to the lists of inputs and tokens, or at the n-th task
@@ -198,6 +224,9 @@ number (why.Option f) = 10
 number why.ObserveNothing = 11
 number why.Memory = 12
 number why.LinkPlace = 13
+number why.NotAsync = 14
+number why.BadPlace = 15
+number why.NotStarted = 16
 
 -- no refusal of a number below n applies anywhere
 abbrev pub NoneBelow : Draft → ℕ → Type 0

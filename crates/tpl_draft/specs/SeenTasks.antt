@@ -11,7 +11,7 @@ use Rattle.tpl_draft.specs.Draft.{Worked, Kind, Root, Child, Continues, WhenAll,
 
 -- what a task with a body has, without where it lies in memory
 abbrev pub work_of : DraftWork → Worked
-work_of w = record { body = w.body; token = option_map string_bytes w.token; options = w.options }
+work_of w = record { body = w.body; token = option_map string_bytes w.token; options = w.options; is_async = w.is_async }
 
 -- a kind with names, without where it lies in memory
 abbrev pub kind_of : DraftKind → Kind
@@ -31,4 +31,4 @@ token_of k = record { name = string_bytes k.name; linked = option_map (λ l. map
 
 -- a draft, without where it lies in memory
 abbrev pub draft_of : declared.Draft → Draft
-draft_of d = record { inputs = map string_bytes d.inputs.items; tokens = map token_of d.tokens.items; tasks = map task_of d.tasks.items }
+draft_of d = record { scale = d.scale; inputs = map string_bytes d.inputs.items; tokens = map token_of d.tokens.items; tasks = map task_of d.tasks.items }

@@ -17,7 +17,7 @@ use Rattle.tpl_draft.specs.Refusals.{applies, IsFirst, in_lists, some_misplaced,
 use Rattle.tpl_draft.specs.Origins.{token_of}
 
 abbrev pub why_of : Test → Why
-why_of test.BadName = why.BadName
+why_of (test.BadName scale) = why.BadName
 why_of (test.Unknown n) = why.Unknown
 why_of (test.NotEarlier n) = why.NotEarlier
 why_of (test.OfChild n) = why.OfChild
@@ -39,13 +39,13 @@ is_before t o = false
 
 -- the lists of inputs and tokens are refused by the test
 abbrev pub in_lists_of : Draft → Test → Bool
-in_lists_of d test.BadName = in_lists d why.BadName
+in_lists_of d (test.BadName scale) = in_lists d why.BadName
 in_lists_of d (test.Unknown n) = list_any (λ (k : Token). list_any (lacks n.now.tokens) (linked_to k.linked)) d.tokens
 in_lists_of d (test.LinkPlace tokens) = some_misplaced 0 (map token_of tokens.now)
 in_lists_of d test = false
 
 abbrev pub tests : List Task → Test → ℕ → Task → Bool
-tests tasks test.BadName t x = is_bad_name x.name || list_any says_bad_name (statements_in x)
+tests tasks (test.BadName scale) t x = is_bad_name scale x.name || list_any (says_bad_name scale) (statements_in x)
 tests tasks (test.Unknown n) t x =
     (is_missing n.now.tokens (worked x.kind).token || list_any (lacks n.now.tasks) (waits_for x.kind))
     || list_any (says_unknown n.now.inputs n.now.tokens n.now.tasks) (statements_in x)
@@ -68,6 +68,7 @@ AreStarters d starters = (t : ℕ) → t < length d.tasks → slice_get starters
 
 -- the tables that the test reads are the draft's
 abbrev pub IsTestOf : Draft → Test → Type 0
+IsTestOf d (test.BadName scale) = scale ≡ d.scale
 IsTestOf d (test.Unknown n) = AreDeclared d n.now
 IsTestOf d (test.NotEarlier n) = AreDeclared d n.now
 IsTestOf d (test.OfChild n) = AreDeclared d n.now

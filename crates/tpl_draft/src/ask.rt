@@ -1,13 +1,14 @@
 //! Tests of the statements of a body, nested ones too.
 
-ghost use Rattle.std.specs.Prelude.{◌≡◌, ◌∷◌, map};
+ghost use Rattle.std.specs.Prelude.{◌≡◌, ◌∷◌, map, string_bytes, option_map};
 ghost use Rattle.std.specs.List.{list_any};
-ghost use Rattle.tpl_draft.specs.Prelude.{asks, each_of, each_within, line_of, statements_in, task_of};
+ghost use Rattle.tpl_draft.specs.Prelude.{asks, awaits_many, each_of, each_within, is_bad_name, lacks, line_of, statements_in, task_of};
 ghost use Rattle.tpl_draft.specs.Refusals as spec;
 
 use crate::draft::{DraftBody, DraftKind, DraftStmt, DraftTask};
 use crate::names::Names;
-use tpl_model::LONGEST_EARLY_NAME;
+use crate::scale::Scale;
+use tpl_model::MOST_ARGUMENTS;
 
 /// The names that a draft declares.
 #[derive(Drop)]
@@ -21,7 +22,9 @@ pub struct Declared {
 #[derive(Clone, Copy)]
 pub enum Ask<'a> {
     /// Its label or site is no name.
-    BadName,
+    BadName(Scale),
+    /// It awaits more tasks than one may wait for.
+    AwaitsMany,
     /// It names what is not declared.
     Unknown(&'a Declared),
     /// It starts a task that is no child.
@@ -37,12 +40,12 @@ fn is_word(c: u8) -> bool
     (c >= b'A' && c <= b'Z') || (c >= b'a' && c <= b'z') || ((c >= b'0' && c <= b'9') || c == b'_')
 }
 
-/// 1 to 32 letters, digits or `_`, not beginning with a digit.
-pub fn is_name(name: &str) -> bool
-    ensures { result ≡ spec.is_name name.now }
+/// 1 to `longest` letters, digits or `_`, not beginning with a digit.
+pub fn is_name(name: &str, longest: usize) -> bool
+    ensures { result ≡ spec.is_name_within longest name.now }
 {
     let bytes = name.as_bytes();
-    if bytes.len() == 0 || bytes.len() > LONGEST_EARLY_NAME {
+    if bytes.len() == 0 || bytes.len() > longest {
         return false;
     }
     for c in bytes {
@@ -63,6 +66,30 @@ pub fn is_child_at(tasks: &[DraftTask], number: usize) -> bool
     }
 }
 
+/// The text is no name.
+pub fn is_bad_name(scale: Scale, name: &str) -> bool
+    ensures { result ≡ is_bad_name scale name.now }
+{
+    !is_name(name, scale.longest_name())
+}
+
+/// The name is there, and isn't declared.
+pub fn lacks(names: &Names, name: &Option<String>) -> bool
+    ensures { result ≡ spec.is_missing names.now (option_map string_bytes name.now) }
+{
+    match name {
+        Some(name) => !names.has(name.as_str()),
+        None => false,
+    }
+}
+
+/// Some wanted name isn't declared.
+pub fn lacks_some(names: &Names, wanted: &[String]) -> bool
+    ensures { result ≡ list_any (λ name. lacks names.now (string_bytes name)) wanted.now }
+{
+    wanted.iter().any(|name| !names.has(name.as_str()))
+}
+
 fn is_unknown(statement: &DraftStmt, declared: &Declared) -> bool
     ensures { result ≡ spec.says_unknown declared.now.inputs declared.now.tokens declared.now.tasks
         (line_of statement.now) }
@@ -72,6 +99,22 @@ fn is_unknown(statement: &DraftStmt, declared: &Declared) -> bool
         DraftStmt::Cancel(token) => !declared.tokens.has(token.as_str()),
         DraftStmt::Start(task) => !declared.tasks.has(task.as_str()),
         DraftStmt::If(input, _, _) => !declared.inputs.has(input.as_str()),
+        DraftStmt::Await(tasks) | DraftStmt::Wait(tasks) => lacks_some(&declared.tasks, tasks),
+        DraftStmt::AwaitAny { tasks, won, .. } => {
+            lacks_some(&declared.tasks, tasks) || lacks(&declared.tasks, won)
+        }
+        _ => false,
+    }
+}
+
+/// The statement awaits more tasks than one may wait for.
+fn awaits_many(statement: &DraftStmt) -> bool
+    ensures { result ≡ awaits_many (line_of statement.now) }
+{
+    match statement {
+        DraftStmt::Await(tasks) | DraftStmt::Wait(tasks) | DraftStmt::AwaitAny { tasks, .. } => {
+            tasks.len() > MOST_ARGUMENTS
+        }
         _ => false,
     }
 }
@@ -80,11 +123,12 @@ fn asks(statement: &DraftStmt, ask: &Ask<'_>) -> bool
     ensures { result ≡ asks ask.now (line_of statement.now) }
 {
     match ask {
-        Ask::BadName => match statement {
-            DraftStmt::Throw(label) => !is_name(label.as_str()),
-            DraftStmt::Work(site, _) => !is_name(site.as_str()),
+        Ask::BadName(scale) => match statement {
+            DraftStmt::Throw(label) => is_bad_name(*scale, label.as_str()),
+            DraftStmt::Work(site, _) => is_bad_name(*scale, site.as_str()),
             _ => false,
         },
+        Ask::AwaitsMany => awaits_many(statement),
         Ask::Unknown(declared) => is_unknown(statement, declared),
         Ask::StartsNoChild(declared, tasks) => match statement {
             DraftStmt::Start(child) => !is_child_at(tasks, declared.tasks.place(child.as_str())),
@@ -116,8 +160,22 @@ fn some_within(statement: &DraftStmt, ask: &Ask<'_>) -> bool
         return true;
     }
     match statement {
-        DraftStmt::If(_, yes, no) | DraftStmt::When(_, yes, no) => {
-            some_statement(yes, ask) || some_statement(no, ask)
+        DraftStmt::If(_, first, second)
+        | DraftStmt::When(_, first, second)
+        | DraftStmt::AwaitAny { first, second, .. } => {
+            some_statement(first, ask) || some_statement(second, ask)
+        }
+        DraftStmt::Try {
+            list,
+            canceled,
+            caught,
+            finally,
+            ..
+        } => {
+            some_statement(list, ask)
+                || some_statement(canceled, ask)
+                || some_statement(caught, ask)
+                || some_statement(finally, ask)
         }
         _ => false,
     }

@@ -3,8 +3,9 @@
 ghost use Rattle.std.specs.Prelude.{◌≡◌};
 ghost use Rattle.tpl_draft.specs.Prelude.{lines_of};
 
+use crate::scale::Scale;
 use std::marker::Model;
-use tpl_model::{Final, Options};
+use tpl_model::{Answers, Clauses, Final, Options};
 
 /// A statement with names (Task Parallel Library guide: exception handling, task cancellation, child tasks).
 #[cycle(draft)]
@@ -22,12 +23,34 @@ pub enum DraftStmt {
     Start(String),
     /// It reads the subject's exception.
     Observe,
-    /// A site, and whether its job may fail.
-    Work(String, bool),
+    /// A site, and what its job may answer.
+    Work(String, Answers),
     /// The first list where the input is true, else the second.
     If(String, DraftBody, DraftBody),
     /// The first list where the subject ended in this way, else the second.
     When(Final, DraftBody, DraftBody),
+    /// It awaits all of these tasks (C#: `await`, `Task.WhenAll`).
+    Await(Vec<String>),
+    /// It waits for all of these tasks (`Task.Wait`, `Task.WaitAll`, `Result`).
+    Wait(Vec<String>),
+    /// It awaits one of these tasks, with the first list where that is the one which is asked for, else with
+    /// the second (`Task.WhenAny`).
+    AwaitAny {
+        tasks: Vec<String>,
+        won: Option<String>,
+        first: DraftBody,
+        second: DraftBody,
+    },
+    /// A `try` with its clauses. The list of a clause that it lacks is empty.
+    Try {
+        clauses: Clauses,
+        list: DraftBody,
+        canceled: DraftBody,
+        caught: DraftBody,
+        finally: DraftBody,
+    },
+    /// It throws what was caught once more (`throw;`).
+    Rethrow,
 }
 
 /// A list of statements with names.
@@ -91,6 +114,8 @@ pub struct DraftWork {
     pub token: Option<String>,
     /// All its option words.
     pub options: Options,
+    /// The body is that of an async method.
+    pub is_async: bool,
 }
 
 /// What makes a task ready.
@@ -118,6 +143,8 @@ pub struct DraftTask {
 /// A graph as a document spells it.
 #[derive(Drop)]
 pub struct Draft {
+    /// Which limits it has.
+    pub scale: Scale,
     pub inputs: Vec<String>,
     pub tokens: Vec<DraftToken>,
     pub tasks: Vec<DraftTask>,

@@ -21,12 +21,13 @@ pub enum OptionsFault {
 /// before any of them.
 #[derive(Clone, Copy, Debug, PartialEq, Eq, Error)]
 pub enum Why {
-    /// More than 16 inputs, 32 tokens, 32 sources of a token (all at 0), 1,024 tasks (at 1,025), 64 statements or 8
-    /// levels of a body, 256 arguments, or 256 sites (at the task of the first beyond).
+    /// More than 64 inputs, 32 tokens, 32 sources of a token (all at 0), 1,024 tasks (at 1,025), 64 statements, 8
+    /// levels or 3 `finally` lists in one another of a body, 256 arguments or tasks that a statement awaits, or 1,024
+    /// sites (at the task of the first beyond). A small scale has 16 inputs and 256 sites.
     #[error("TooMany")]
     TooMany,
-    /// A name where it is declared, a label or a site isn't 1 to 32 ASCII letters, digits or `_`, or begins with a
-    /// digit.
+    /// A name where it is declared, a label or a site isn't 1 to 64 ASCII letters, digits or `_`, or begins with a
+    /// digit. A small scale has names of 32.
     #[error("BadName")]
     BadName,
     /// Two inputs, two tokens or two tasks have one name; at the second of two tasks.
@@ -63,6 +64,17 @@ pub enum Why {
     /// A token that is linked to nothing, or to a token that isn't declared before it; at 0.
     #[error("LinkPlace")]
     LinkPlace,
+    /// A statement awaits in a body that isn't async; `wait` may stand in any.
+    #[error("NotAsync")]
+    NotAsync,
+    /// A `return` in a `finally`, a `rethrow` outside a `catch` or in a `finally` inside it, or a winner that isn't
+    /// among the tasks of its statement.
+    #[error("BadPlace")]
+    BadPlace,
+    /// A statement awaits a child that isn't surely started there, or a task that is no child and isn't declared
+    /// before the head of the task that awaits it (C#: definite assignment).
+    #[error("NotStarted")]
+    NotStarted,
 }
 
 /// A refusal, and the number of the task where it applies, from 1, or 0 where it is no task.

@@ -1,13 +1,13 @@
 //! Bodies with ids in place of names.
 
-ghost use Rattle.std.specs.Prelude.{◌≡◌, IfOk};
-ghost use Rattle.tpl_draft.specs.Prelude.{AreFew, line_of, place, script_in, seen, statement_in};
+ghost use Rattle.std.specs.Prelude.{◌≡◌, IfOk, map, option_map, string_bytes};
+ghost use Rattle.tpl_draft.specs.Prelude.{AreFew, line_of, place, script_in, seen, statement_in, task_number};
 ghost use Rattle.tpl_model.specs.Prelude.{statement_of};
 
 use crate::draft::{DraftBody, DraftStmt};
 use crate::names::Tables;
 use std::alloc::{AllocError, Global};
-use tpl_model::{Answers, Body, InputId, LabelId, SiteId, Stmt, TaskId, TokenId};
+use tpl_model::{Body, InputId, LabelId, SiteId, Stmt, TaskId, TokenId};
 
 /// The task of a name.
 pub fn task_id(tables: &Tables, name: &str) -> TaskId
@@ -46,6 +46,31 @@ fn site_id(tables: &Tables, name: &str) -> SiteId
     SiteId(tables.sites.place(name) as u16)
 }
 
+/// The tasks of a list of names.
+pub fn task_ids(alloc: Global, tables: &Tables, names: &[String]) -> Result<Vec<TaskId>, AllocError>
+    requires { AreFew (seen tables.now) }
+    ensures { IfOk result (λ v. map task_number v.items
+        ≡ map (place tables.now.tasks) (map string_bytes names.now)) }
+{
+    let mut ids = Vec::new(alloc);
+    for name in names {
+        ids.push(task_id(tables, name.as_str()))?;
+    }
+    Ok(ids)
+}
+
+/// The task of a name, if there is one.
+fn winner_id(tables: &Tables, name: &Option<String>) -> Option<TaskId>
+    requires { AreFew (seen tables.now) }
+    ensures { option_map task_number result ≡ option_map (place tables.now.tasks)
+        (option_map string_bytes name.now) }
+{
+    match name {
+        Some(name) => Some(task_id(tables, name.as_str())),
+        None => None,
+    }
+}
+
 /// The body with ids.
 #[cycle(number)]
 pub fn number_body(alloc: Global, tables: &Tables, body: &DraftBody) -> Result<Body, AllocError>
@@ -76,12 +101,8 @@ fn number_statement(
         DraftStmt::Cancel(token) => Ok(Stmt::Cancel(token_id(tables, token.as_str()))),
         DraftStmt::Start(task) => Ok(Stmt::Start(task_id(tables, task.as_str()))),
         DraftStmt::Observe => Ok(Stmt::Observe),
-        DraftStmt::Work(site, may_fail) => {
-            let answers = Answers {
-                may_fail: *may_fail,
-                may_cancel: false,
-            };
-            Ok(Stmt::Work(site_id(tables, site.as_str()), answers))
+        DraftStmt::Work(site, answers) => {
+            Ok(Stmt::Work(site_id(tables, site.as_str()), *answers))
         }
         DraftStmt::If(input, yes, no) => {
             let yes = number_body(alloc, tables, yes)?;
@@ -93,5 +114,43 @@ fn number_statement(
             let no = number_body(alloc, tables, no)?;
             Ok(Stmt::When(*status, yes, no))
         }
+        DraftStmt::Await(tasks) => Ok(Stmt::Await(task_ids(alloc, tables, tasks)?)),
+        DraftStmt::Wait(tasks) => Ok(Stmt::Wait(task_ids(alloc, tables, tasks)?)),
+        DraftStmt::AwaitAny {
+            tasks,
+            won,
+            first,
+            second,
+        } => {
+            let tasks = task_ids(alloc, tables, tasks)?;
+            let first = number_body(alloc, tables, first)?;
+            let second = number_body(alloc, tables, second)?;
+            Ok(Stmt::AwaitAny {
+                tasks,
+                won: winner_id(tables, won),
+                first,
+                second,
+            })
+        }
+        DraftStmt::Try {
+            clauses,
+            list,
+            canceled,
+            caught,
+            finally,
+        } => {
+            let list = number_body(alloc, tables, list)?;
+            let canceled = number_body(alloc, tables, canceled)?;
+            let caught = number_body(alloc, tables, caught)?;
+            let finally = number_body(alloc, tables, finally)?;
+            Ok(Stmt::Try {
+                clauses: *clauses,
+                list,
+                canceled,
+                caught,
+                finally,
+            })
+        }
+        DraftStmt::Rethrow => Ok(Stmt::Rethrow),
     }
 }

@@ -10,11 +10,12 @@ ghost use Rattle.tpl_draft.specs.Refusals as spec;
 ghost use Rattle.tpl_draft.specs.SeenTasks.{token_of};
 ghost use Rattle.tpl_model.specs.Prelude.{Linked};
 
-use crate::ask::{Ask, Declared, is_child_at, is_name, some_in_task};
+use crate::ask::{Ask, Declared, is_bad_name, is_child_at, lacks, lacks_some, some_in_task};
 use crate::draft::{Draft, DraftKind, DraftTask, DraftToken};
 use crate::fault::Why;
 use crate::names::Names;
 use crate::origin::Origin;
+use crate::scale::Scale;
 use crate::starter::Starter;
 use std::slice;
 use tpl_model::TokenId;
@@ -22,7 +23,7 @@ use tpl_model::TokenId;
 /// The refusals that are tested for each task by itself, with the tables that the tests read.
 #[derive(Clone, Copy)]
 pub enum Test<'a> {
-    BadName,
+    BadName(Scale),
     Unknown(&'a Declared),
     NotEarlier(&'a Declared),
     OfChild(&'a Declared),
@@ -37,7 +38,7 @@ pub fn why_of(test: &Test<'_>) -> Why
     ensures { result ≡ why_of test.now }
 {
     match test {
-        Test::BadName => Why::BadName,
+        Test::BadName(_) => Why::BadName,
         Test::Unknown(_) => Why::Unknown,
         Test::NotEarlier(_) => Why::NotEarlier,
         Test::OfChild(_) => Why::OfChild,
@@ -48,31 +49,18 @@ pub fn why_of(test: &Test<'_>) -> Why
     }
 }
 
-fn some_bad_name(names: &[String]) -> bool
-    ensures { result ≡ list_any (λ name. is_bad_name (string_bytes name)) names.now }
+fn some_bad_name(scale: Scale, names: &[String]) -> bool
+    ensures { result ≡ list_any (λ name. is_bad_name scale (string_bytes name)) names.now }
 {
-    names.iter().any(|name| !is_name(name.as_str()))
+    names.iter().any(|name| is_bad_name(scale, name.as_str()))
 }
 
-fn some_bad_token(tokens: &[DraftToken]) -> bool
-    ensures { result ≡ list_any (λ token. is_bad_name (string_bytes token.name)) tokens.now }
+fn some_bad_token(scale: Scale, tokens: &[DraftToken]) -> bool
+    ensures { result ≡ list_any (λ token. is_bad_name scale (string_bytes token.name)) tokens.now }
 {
-    tokens.iter().any(|token| !is_name(token.name.as_str()))
-}
-
-fn lacks(names: &Names, name: &Option<String>) -> bool
-    ensures { result ≡ spec.is_missing names.now (option_map string_bytes name.now) }
-{
-    match name {
-        Some(name) => !names.has(name.as_str()),
-        None => false,
-    }
-}
-
-fn lacks_some(names: &Names, wanted: &[String]) -> bool
-    ensures { result ≡ list_any (λ name. lacks names.now (string_bytes name)) wanted.now }
-{
-    wanted.iter().any(|name| !names.has(name.as_str()))
+    tokens
+        .iter()
+        .any(|token| is_bad_name(scale, token.name.as_str()))
 }
 
 /// The tokens to which a token is linked.
@@ -237,8 +225,8 @@ fn some_misplaced(tokens: &[Origin]) -> bool
 fn bad_name_in_lists(draft: &Draft) -> bool
     ensures { result ≡ spec.in_lists (draft_of draft.now) BadName }
 {
-    let bad_input = some_bad_name(&draft.inputs);
-    let bad_token = some_bad_token(&draft.tokens);
+    let bad_input = some_bad_name(draft.scale, &draft.inputs);
+    let bad_token = some_bad_token(draft.scale, &draft.tokens);
     bad_input || bad_token
 }
 
@@ -254,7 +242,7 @@ fn in_lists(draft: &Draft, test: &Test<'_>) -> bool
     ensures { result ≡ in_lists_of (draft_of draft.now) test.now }
 {
     match test {
-        Test::BadName => bad_name_in_lists(draft),
+        Test::BadName(_) => bad_name_in_lists(draft),
         Test::Unknown(declared) => unknown_in_lists(draft, &declared.tokens),
         Test::LinkPlace(tokens) => some_misplaced(tokens),
         _ => false,
@@ -265,7 +253,9 @@ fn in_task(t: usize, task: &DraftTask, tasks: &[DraftTask], test: &Test<'_>) -> 
     ensures { result ≡ tests (map task_of tasks.now) test.now t (task_of task.now) }
 {
     match test {
-        Test::BadName => !is_name(task.name.as_str()) || some_in_task(task, &Ask::BadName),
+        Test::BadName(scale) => {
+            is_bad_name(*scale, task.name.as_str()) || some_in_task(task, &Ask::BadName(*scale))
+        }
         Test::Unknown(declared) => {
             (lacks_token(declared, task) || lacks_waited(declared, task))
                 || some_in_task(task, &Ask::Unknown(declared))

@@ -2,17 +2,24 @@
 
 ghost use Rattle.std.specs.Prelude.{◌≡◌, ◌+◌, ◌<◌, ◌≤◌, ◌⊎◌, ◌||◌, false, true, IfSome, IfNone, length, nat_lt};
 ghost use Rattle.std.specs.List.{list_any};
-ghost use Rattle.tpl_draft.specs.Prelude.{IsFirst, Token, applies, draft_of, exceeds, in_lists, line_count, site_count, task_of, worked};
+ghost use Rattle.tpl_draft.specs.Prelude.{IsFirst, Token, applies, draft_of, exceeds, finallys, in_lists, is_too_much, line_count, most_inputs, site_count, task_of, worked};
 ghost use Rattle.tpl_draft.specs.declared.fault.Why.TheVariants as why;
 ghost use Rattle.tpl_draft.specs.Draft.{levels as level_count};
 ghost use Rattle.tpl_draft.specs.Draft as meaning;
 ghost use Rattle.tpl_draft.specs.SeenTasks.{token_of};
 
 use crate::draft::{Draft, DraftKind, DraftTask, DraftToken};
-use crate::limits::{Room, room_behind};
+use crate::ask::{Ask, some_in_task};
+use crate::limits::{Depth, Room, room_behind};
 use crate::refusals::{linked_to, waits_for};
 use tpl_model::{
-    MOST_ARGUMENTS, MOST_EARLY_INPUTS, MOST_LEVELS, MOST_EARLY_SITES, MOST_STATEMENTS, MOST_TASKS, MOST_TOKENS,
+    MOST_ARGUMENTS, MOST_FINALLYS, MOST_LEVELS, MOST_STATEMENTS, MOST_TASKS, MOST_TOKENS,
+};
+
+/// How deep a body may nest, and how many `finally` lists of it may stand in one another.
+const DEPTH: Depth = Depth {
+    levels: MOST_LEVELS,
+    finallys: MOST_FINALLYS,
 };
 
 fn linked_to_many(token: &DraftToken) -> bool
@@ -37,10 +44,11 @@ fn sources_exceed(draft: &Draft) -> bool
 }
 
 fn counts_exceed(draft: &Draft) -> bool
-    ensures { result ≡ (nat_lt MOST_EARLY_INPUTS (length (draft_of draft.now).inputs)
+    ensures { result ≡ (nat_lt (most_inputs draft.now.scale)
+        (length (draft_of draft.now).inputs)
         || nat_lt MOST_TOKENS (length (draft_of draft.now).tokens)) }
 {
-    draft.inputs.len() > MOST_EARLY_INPUTS || draft.tokens.len() > MOST_TOKENS
+    draft.inputs.len() > draft.scale.most_inputs() || draft.tokens.len() > MOST_TOKENS
 }
 
 /// There are too many inputs, tokens, or sources of a token.
@@ -56,15 +64,16 @@ fn room_behind_body(task: &DraftTask, room: Room) -> Option<Room>
         (worked (task_of task.now).kind).body ≡ room.statements) }
     ensures sites { IfSome result (λ left. left.sites + site_count
         (worked (task_of task.now).kind).body ≡ room.sites) }
-    ensures levels { IfSome result (λ left. level_count (worked (task_of task.now).kind).body ≤ MOST_LEVELS) }
-    ensures exceeds { IfNone result ((room.statements < line_count
-        (worked (task_of task.now).kind).body) ⊎ ((MOST_LEVELS < level_count
-        (worked (task_of task.now).kind).body) ⊎ (room.sites < site_count
-        (worked (task_of task.now).kind).body))) }
+    ensures levels { IfSome result (λ left. level_count (worked (task_of task.now).kind).body
+        ≤ MOST_LEVELS) }
+    ensures finallys { IfSome result (λ left. finallys (worked (task_of task.now).kind).body
+        ≤ MOST_FINALLYS) }
+    ensures exceeds { IfNone result ((is_too_much (worked (task_of task.now).kind).body
+        || nat_lt room.sites (site_count (worked (task_of task.now).kind).body)) ≡ true) }
 {
     match &task.kind {
         DraftKind::Root(work) | DraftKind::Child(work) | DraftKind::Then(_, work) => {
-            room_behind(&work.body, room, MOST_LEVELS)
+            room_behind(&work.body, room, DEPTH)
         }
         _ => Some(room),
     }
@@ -82,6 +91,9 @@ fn sites_behind(t: usize, task: &DraftTask, sites: u16) -> Option<u16>
     if t == MOST_TASKS as usize || arguments > MOST_ARGUMENTS {
         return None;
     }
+    if some_in_task(task, &Ask::AwaitsMany) {
+        return None;
+    }
     let room = Room {
         statements: MOST_STATEMENTS,
         sites,
@@ -97,7 +109,7 @@ pub fn first_too_many(draft: &Draft) -> Option<usize>
     if lists_exceed(draft) {
         return Some(0);
     }
-    let mut sites = MOST_EARLY_SITES as u16;
+    let mut sites = draft.scale.most_sites() as u16;
     for (t, task) in draft.tasks.iter().enumerate() {
         match sites_behind(t, task, sites) {
             Some(left) => sites = left,

@@ -4,10 +4,11 @@ use Rattle.tpl_graph.specs.declared.check.Checked.{Checked}
 use Rattle.tpl_graph.specs.declared.check.Found.{Found}
 use Rattle.tpl_graph.specs.Collected.{all_owned}
 use Rattle.tpl_draft.specs.Names.{some_twice}
-use Rattle.tpl_draft.specs.Numbered.{names_of, graph_in}
+use Rattle.tpl_draft.specs.Numbered.{names_of, graph_in, task_in}
 use Rattle.tpl_draft.specs.Draft.{Draft}
 use Rattle.tpl_draft.specs.Refusals.{all_starts}
 use Rattle.tpl_draft.specs.Origins.{token_of}
+use Rattle.tpl_graph.specs.Rows.{task_of}
 use Rattle.tpl_graph.specs.Starters.{numbers}
 use Rattle.tpl_draft.specs.Tables.{seen}
 use Rattle.tpl_draft.specs.Test.{AreDeclared, AreStarters}
@@ -29,6 +30,7 @@ pub record IsChecked (d : Draft) (c : Checked) : Type 0 where
   pub starters : AreStarters d c.starters.items
   pub sites : c.sites.items ≡ all_owned 0 d.tasks
   pub long : length c.starters.items ≡ length d.tasks
+  pub tasks : map task_of c.tasks.items ≡ map (task_in (names_of d)) d.tasks
   pub inputs_once : some_twice (names_of d).inputs ≡ false
   pub tokens_once : some_twice (names_of d).tokens ≡ false
   pub tasks_once : some_twice (names_of d).tasks ≡ false

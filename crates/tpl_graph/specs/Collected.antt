@@ -1,5 +1,6 @@
 -- What the statements of a body name: labels, sites, and the tasks that they start.
-use Rattle.std.specs.Prelude.{ℕ, suc, Bool, false, List, [], ◌∷◌, ◌++◌, flat_map}
+use Rattle.std.specs.Prelude.{ℕ, suc, List, [], ◌∷◌, ◌++◌, flat_map}
+use Rattle.tpl_model.specs.declared.status.Answers.{Answers}
 use Rattle.tpl_draft.specs.declared.sort.Sort.{Sort}
 use Rattle.tpl_graph.specs.declared.row.Site.{Site}
 use Rattle.tpl_draft.specs.Names.{place}
@@ -18,11 +19,11 @@ start_in tasks s = []
 abbrev pub started : List (List ℕ) → Lines → List ℕ
 started tasks body = flat_map (start_in tasks) (each_of body)
 
-abbrev pub site_of : ℕ → Bool → Site
-site_of owner may_fail = record { owner = record { 0 = owner }; answers = record { may_fail = may_fail; may_cancel = false } }
+abbrev pub site_of : ℕ → Answers → Site
+site_of owner answers = record { owner = record { 0 = owner }; answers = answers }
 
 abbrev pub owned_in : ℕ → Line → List Site
-owned_in owner (Work s may_fail) = site_of owner may_fail ∷ []
+owned_in owner (Work s answers) = site_of owner answers ∷ []
 owned_in owner s = []
 
 -- the sites of a body with their owner, in the order of its text

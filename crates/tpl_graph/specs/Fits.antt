@@ -57,6 +57,15 @@ has_body kind = true
 abbrev pub have_bodies : TaskGraph → Property TaskId → Bool
 have_bodies g p = list_all (λ t. has_body (kind g t.0)) (bodied_tasks p)
 
+-- what is given to begin, or never to begin, has a body
+abbrev pub has_given_body : TaskGraph → Given → Bool
+has_given_body g (Begins t) = has_body (kind g t.0)
+has_given_body g (Never t) = has_body (kind g t.0)
+has_given_body g given = true
+
+abbrev pub given_bodies : TaskGraph → List Given → Bool
+given_bodies g given = list_all (has_given_body g) given
+
 -- a claim that can be asked of a graph: its ids are the graph's, what it says of bodies is said of tasks with a body,
 -- and nothing is given twice
 pub record Fits (g : TaskGraph) (claim : Claim) : Type 0 where

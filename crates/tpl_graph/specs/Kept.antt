@@ -1,7 +1,7 @@
 -- What is true of each graph with its names, and of the tables that its readers read.
 use Rattle.std.specs.Prelude.{◌≡◌, ℕ, ◌<◌, true, false, Option, Some, None, List, length, map, slice_get}
 use Rattle.tpl_model.specs.declared.ids.TaskId.{TaskId}
-use Rattle.tpl_model.specs.Statements.{Statement, Statements, Nothing, ◌⨾◌, Throw, Work, If, When, sites}
+use Rattle.tpl_model.specs.Statements.{Statement, Statements, Nothing, ◌⨾◌, Throw, Work, If, When, AwaitAny, Try, Trying, Caught, sites}
 use Rattle.tpl_model.specs.Graph.{TaskGraph, body, attached, is_task, IsParent}
 use Rattle.tpl_model.specs.Valid.{IsGraph, all_sites, bound}
 use Rattle.std.specs.declared.vec.Vec.{Vec}
@@ -19,9 +19,15 @@ abbrev mutual
 
   pub IsNamed : (labels sites : ℕ) → Statement → Type 0
   IsNamed labels sites (Throw l) = l < labels
-  IsNamed labels sites (Work s may_fail) = s < sites
+  IsNamed labels sites (Work s answers) = s < sites
   IsNamed labels sites (If i first second) = AreNamed labels sites first × AreNamed labels sites second
   IsNamed labels sites (When f first second) = AreNamed labels sites first × AreNamed labels sites second
+  IsNamed labels sites (AwaitAny xs won first second) = AreNamed labels sites first × AreNamed labels sites second
+  IsNamed labels sites (Try c list canceled caught finally) =
+      AreNamed labels sites list × AreNamed labels sites canceled × AreNamed labels sites caught × AreNamed labels sites finally
+  IsNamed labels sites (Trying c canceled caught finally) =
+      AreNamed labels sites canceled × AreNamed labels sites caught × AreNamed labels sites finally
+  IsNamed labels sites (Caught thrown finally) = AreNamed labels sites finally
   IsNamed labels sites s = Unit {0}
 
 -- each of the names is spelled as one

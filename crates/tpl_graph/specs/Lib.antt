@@ -7,5 +7,7 @@ pub mod Sites
 pub mod Collected
 pub mod Small
 pub mod Starters
+pub mod Sure
+pub mod Families
 pub mod Checked
 pub mod Prelude

@@ -1,13 +1,16 @@
 //! The refusals in order.
 
-ghost use Rattle.std.specs.Prelude.{◌≡◌, false, length, map, suc, IfOk, OnOk, IfErr};
-ghost use Rattle.tpl_draft.specs.Prelude.{AreDeclared, AreStarters, IsTestOf, IsValid, NoneBelow, Refuses, all_starts, draft_of, graph_in, names_of, number, some_twice, why_of};
+ghost use Rattle.std.specs.Prelude.{◌≡◌, ◌<◌, ◌-◌, false, length, map, suc, None, Some, IfOk, OnOk, IfErr};
+ghost use Rattle.tpl_draft.specs.Prelude.{AreDeclared, AreStarters, IsFirst, IsTestOf, IsValid, NoneBelow, Refuses, all_starts, draft_of, graph_in, names_of, number, seen, some_twice, task_in, why_of};
 ghost use Rattle.tpl_draft.specs.declared.fault.Why.TheVariants as why;
 ghost use Rattle.tpl_draft.specs.Origins.{token_of};
-ghost use Rattle.tpl_graph.specs.Prelude.{IsChecked, IsFound, all_owned, numbers};
+ghost use Rattle.tpl_graph.specs.Families.{awaits_plainly, is_out_of_place};
+ghost use Rattle.tpl_graph.specs.Prelude.{IsChecked, IsFound, all_owned, numbers, rows_graph, task_of};
 
-use crate::row::Site;
-use crate::rows::origins;
+use crate::families::first_not_started;
+use crate::placed::{Inside, are_placed, awaits_nothing};
+use crate::row::{Row, Site};
+use crate::rows::{number_tasks, origins};
 use crate::starters::{all_starts, starters};
 use crate::tables::{label_table, site_table};
 use std::alloc::Global;
@@ -57,7 +60,7 @@ fn pass_names(alloc: Global, draft: &Draft) -> Result<Declared, GraphFault>
     ensures fault { IfErr result (Refuses (draft_of draft.now)) }
 {
     pass_limits(draft)?;
-    pass(draft, &Test::BadName)?;
+    pass(draft, &Test::BadName(draft.scale))?;
     let declared = declare(alloc, draft)?;
     pass(draft, &Test::Unknown(&declared))?;
     Ok(declared)
@@ -121,6 +124,7 @@ pub(crate) struct Checked {
     pub(crate) starts: Vec<Vec<TaskId>>,
     pub(crate) starters: Vec<Starter>,
     pub(crate) sites: Vec<Site>,
+    pub(crate) tasks: Vec<Row>,
 }
 
 /// Which tasks start which, where each start names a child and each child is started once; and the sites.
@@ -152,7 +156,7 @@ fn pass_links(alloc: Global, draft: &Draft, names: &Names) -> Result<Vec<Origin>
     requires before { NoneBelow (draft_of draft.now) (suc (number why.ObserveNothing)) }
     ensures tokens { IfOk result (λ v. map token_of v.items
         ≡ (graph_in (names_of (draft_of draft.now)) (draft_of draft.now)).tokens) }
-    ensures valid { OnOk result (IsValid (draft_of draft.now)) }
+    ensures none { OnOk result (NoneBelow (draft_of draft.now) (number why.NotAsync)) }
     ensures fault { IfErr result (Refuses (draft_of draft.now)) }
 {
     let tokens = origins(alloc, names, &draft.tokens)?;
@@ -195,7 +199,7 @@ fn labels_of(alloc: Global, draft: &Draft) -> Result<Names, GraphFault>
     Ok(labels)
 }
 
-/// The tests behind those of children. Gives the sites, the rows of the tokens, and the labels.
+/// The tests behind those of children, up to those of bodies. Gives the sites, the rows of the tokens, and the labels.
 fn pass_rest(
     alloc: Global,
     draft: &Draft,
@@ -208,7 +212,7 @@ fn pass_rest(
     ensures labels { IfOk result (λ r. r.2 ≡ (names_of (draft_of draft.now)).labels) }
     ensures tokens { IfOk result (λ r. map token_of r.1.items
         ≡ (graph_in (names_of (draft_of draft.now)) (draft_of draft.now)).tokens) }
-    ensures valid { OnOk result (IsValid (draft_of draft.now)) }
+    ensures none { OnOk result (NoneBelow (draft_of draft.now) (number why.NotAsync)) }
     ensures fault { IfErr result (Refuses (draft_of draft.now)) }
 {
     let sites = pass_sites(alloc, draft)?;
@@ -217,6 +221,94 @@ fn pass_rest(
     let origins = pass_links(alloc, draft, tokens)?;
     let labels = labels_of(alloc, draft)?;
     Ok((sites, origins, labels))
+}
+
+/// The first task whose body awaits and isn't async.
+fn first_not_async(rows: &[Row]) -> Option<usize>
+    ensures { IsFirst (awaits_plainly (rows_graph rows.now)) result }
+{
+    for (t, row) in rows.iter().enumerate() {
+        if !row.is_async && !awaits_nothing(row.script.body()) {
+            return Some(t);
+        }
+    }
+    None
+}
+
+/// The first task whose body has a statement out of its place.
+fn first_bad_place(rows: &[Row]) -> Option<usize>
+    ensures { IsFirst (is_out_of_place (rows_graph rows.now)) result }
+{
+    let outside = Inside {
+        catch: false,
+        finally: false,
+    };
+    for (t, row) in rows.iter().enumerate() {
+        if !are_placed(row.script.body(), outside) {
+            return Some(t);
+        }
+    }
+    None
+}
+
+/// The refusal applies to no task: `first` is the first to which it does.
+fn pass_tasks(why: Why, first: Option<usize>) -> Result<(), GraphFault>
+    ensures ok { OnOk result (first ≡ None) }
+    ensures err { IfErr result (λ fault. (fault.why ≡ why) × (first ≡ Some (fault.at - 1))
+        × (0 < fault.at)) }
+{
+    match first {
+        Some(t) => Err(GraphFault { why, at: t + 1 }),
+        None => Ok(()),
+    }
+}
+
+/// The tests of bodies with ids, which await only where and what they may.
+fn pass_bodies(
+    alloc: Global,
+    draft: &Draft,
+    rows: &[Row],
+    starts: &[Vec<TaskId>],
+    starters: &[Starter],
+) -> Result<(), GraphFault>
+    requires rows { map task_of rows.now ≡ map (task_in (names_of (draft_of draft.now)))
+        (draft_of draft.now).tasks }
+    requires starts { map numbers starts.now
+        ≡ all_starts (graph_in (names_of (draft_of draft.now)) (draft_of draft.now)) }
+    requires starters { AreStarters (draft_of draft.now) starters.now }
+    requires long { length starters.now ≡ length (draft_of draft.now).tasks }
+    requires before { NoneBelow (draft_of draft.now) (number why.NotAsync) }
+    ensures valid { OnOk result (IsValid (draft_of draft.now)) }
+    ensures fault { IfErr result (Refuses (draft_of draft.now)) }
+{
+    pass_tasks(Why::NotAsync, first_not_async(rows))?;
+    pass_tasks(Why::BadPlace, first_bad_place(rows))?;
+    let first = first_not_started(alloc, rows, starts, starters)?;
+    pass_tasks(Why::NotStarted, first)
+}
+
+/// The rows of the tasks, where their bodies await only where and what they may.
+fn pass_rows(
+    alloc: Global,
+    draft: &Draft,
+    names: &Tables,
+    starts: &[Vec<TaskId>],
+    starters: &[Starter],
+) -> Result<Vec<Row>, GraphFault>
+    requires names { seen names.now ≡ names_of (draft_of draft.now) }
+    requires starts { map numbers starts.now
+        ≡ all_starts (graph_in (names_of (draft_of draft.now)) (draft_of draft.now)) }
+    requires starters { AreStarters (draft_of draft.now) starters.now }
+    requires long { length starters.now ≡ length (draft_of draft.now).tasks }
+    requires before { NoneBelow (draft_of draft.now) (number why.NotAsync) }
+    ensures rows { IfOk result (λ v. map task_of v.items
+        ≡ map (task_in (names_of (draft_of draft.now))) (draft_of draft.now).tasks) }
+    ensures valid { OnOk result (IsValid (draft_of draft.now)) }
+    ensures fault { IfErr result (Refuses (draft_of draft.now)) }
+{
+    let rows = number_tasks(alloc, names, &draft.tasks)?;
+    pass_bodies(alloc, draft, &rows, starts, starters)?;
+    Ok(rows)
 }
 
 /// The tables of the draft, where no refusal applies to it.
@@ -234,11 +326,13 @@ pub(crate) fn check(alloc: Global, draft: &Draft) -> Result<Checked, GraphFault>
         labels,
         sites,
     };
+    let tasks = pass_rows(alloc, draft, &names, &found.starts, &found.starters)?;
     Ok(Checked {
         names,
         tokens,
         starts: found.starts,
         starters: found.starters,
         sites: found.sites,
+        tasks,
     })
 }

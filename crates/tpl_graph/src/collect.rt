@@ -7,7 +7,7 @@ ghost use Rattle.tpl_graph.specs.Prelude.{named, owned, owned_in, start_in, star
 use crate::row::Site;
 use std::alloc::AllocError;
 use tpl_draft::{DraftBody, DraftStmt, Names, Sort};
-use tpl_model::{Answers, MOST_TASKS, TaskId};
+use tpl_model::{MOST_TASKS, TaskId};
 
 fn either(first: bool, second: bool) -> bool
     ensures { result ≡ (first || second) }
@@ -38,6 +38,24 @@ pub(crate) fn add_names(names: &mut Names, body: &DraftBody, sort: Sort) -> Resu
     Ok(twice)
 }
 
+/// Adds the names of a sort in two lists.
+#[cycle(add)]
+fn add_both(
+    names: &mut Names,
+    first: &DraftBody,
+    second: &DraftBody,
+    sort: Sort,
+) -> Result<bool, AllocError>
+    ensures names { OnOk result (names.new ≡ with_names names.old
+        (named sort first.now ++ named sort second.now)) }
+    ensures twice { IfOk result (λ twice. twice ≡ twice_after names.old
+        (named sort first.now ++ named sort second.now)) }
+{
+    let one = add_names(names, first, sort)?;
+    let other = add_names(names, second, sort)?;
+    Ok(either(one, other))
+}
+
 #[cycle(add)]
 fn add_within(names: &mut Names, statement: &DraftStmt, sort: Sort) -> Result<bool, AllocError>
     ensures names { OnOk result (names.new ≡ with_names names.old
@@ -54,14 +72,18 @@ fn add_within(names: &mut Names, statement: &DraftStmt, sort: Sort) -> Result<bo
             Sort::Labels => Ok(false),
             Sort::Sites => add_name(names, site),
         },
-        DraftStmt::If(_, yes, no) => {
-            let first = add_names(names, yes, sort)?;
-            let second = add_names(names, no, sort)?;
-            Ok(either(first, second))
-        }
-        DraftStmt::When(_, yes, no) => {
-            let first = add_names(names, yes, sort)?;
-            let second = add_names(names, no, sort)?;
+        DraftStmt::If(_, first, second) => add_both(names, first, second, sort),
+        DraftStmt::When(_, first, second) => add_both(names, first, second, sort),
+        DraftStmt::AwaitAny { first, second, .. } => add_both(names, first, second, sort),
+        DraftStmt::Try {
+            list,
+            canceled,
+            caught,
+            finally,
+            ..
+        } => {
+            let first = add_both(names, list, canceled, sort)?;
+            let second = add_both(names, caught, finally, sort)?;
             Ok(either(first, second))
         }
         _ => Ok(false),
@@ -109,19 +131,30 @@ fn collect_within(
             starts.push(TaskId(tasks.place(task.as_str()) as u16))?;
             Ok(())
         }
-        DraftStmt::Work(_, may_fail) => {
+        DraftStmt::Work(_, answers) => {
             sites.push(Site {
                 owner,
-                answers: Answers {
-                    may_fail: *may_fail,
-                    may_cancel: false,
-                },
+                answers: *answers,
             })?;
             Ok(())
         }
-        DraftStmt::If(_, yes, no) | DraftStmt::When(_, yes, no) => {
-            collect(starts, sites, yes, owner, tasks)?;
-            collect(starts, sites, no, owner, tasks)
+        DraftStmt::If(_, first, second)
+        | DraftStmt::When(_, first, second)
+        | DraftStmt::AwaitAny { first, second, .. } => {
+            collect(starts, sites, first, owner, tasks)?;
+            collect(starts, sites, second, owner, tasks)
+        }
+        DraftStmt::Try {
+            list,
+            canceled,
+            caught,
+            finally,
+            ..
+        } => {
+            collect(starts, sites, list, owner, tasks)?;
+            collect(starts, sites, canceled, owner, tasks)?;
+            collect(starts, sites, caught, owner, tasks)?;
+            collect(starts, sites, finally, owner, tasks)
         }
         _ => Ok(()),
     }

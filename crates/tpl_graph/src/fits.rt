@@ -2,7 +2,7 @@
 
 ghost use Rattle.std.specs.Prelude.{◌≡◌, ◌↔◌, IsTrue};
 ghost use Rattle.std.specs.List.{list_all, list_any};
-ghost use Rattle.tpl_graph.specs.Prelude.{Fits, IsGivenOf, given_twice, has_body, have_bodies, is_of_one_thing};
+ghost use Rattle.tpl_graph.specs.Prelude.{Fits, IsGivenOf, given_bodies, given_twice, has_body, has_given_body, have_bodies, is_of_one_thing};
 ghost use Rattle.tpl_model.specs.Prelude.{AreAll, is_task, kind, somes};
 
 use crate::claim::Claim;
@@ -98,6 +98,22 @@ pub fn have_bodies(graph: &Graph, body: Property) -> bool
     ensures { result ≡ have_bodies graph.now.graph body }
 {
     have_body(graph, &body.bodied_tasks())
+}
+
+fn has_given_body(graph: &Graph, given: Given) -> bool
+    ensures { result ≡ has_given_body graph.now.graph given }
+{
+    match given {
+        Given::Begins(task) | Given::Never(task) => has_body(graph, task),
+        _ => true,
+    }
+}
+
+/// Whether each task that is given to begin, or never to begin, has a body: WhenAll and WhenAny tasks have none.
+pub fn given_bodies(graph: &Graph, given: &[Given]) -> bool
+    ensures { result ≡ given_bodies graph.now.graph given.now }
+{
+    given.iter().all(|one| has_given_body(graph, *one))
 }
 
 impl Claim {

@@ -11,7 +11,6 @@ use crate::check::{Checked, check};
 use crate::early::are_early;
 use crate::role::Role;
 use crate::row::{Kind, OwnRole, Row, Site};
-use crate::rows::number_tasks;
 use crate::same::{same_lists, same_tables};
 use crate::starters::{attached, bound, parents};
 use std::alloc::{AllocError, Global};
@@ -85,31 +84,26 @@ impl Drop for Graph {
 /// What a graph has beside the tables that were checked.
 #[derive(Drop)]
 struct Kept {
-    tasks: Vec<Row>,
     parents: Vec<Option<TaskId>>,
     attached: Vec<Vec<TaskId>>,
     bound: u32,
     is_early: bool,
 }
 
-/// The rows of the tasks, their parents and attached children, and the longest run.
+/// The parents and attached children of the tasks, and the longest run.
 fn keep(alloc: Global, draft: &Draft, checked: &Checked) -> Result<Kept, AllocError>
     requires checked { IsChecked (draft_of draft.now) checked.now }
     requires valid { IsValid (draft_of draft.now) }
-    ensures tasks { IfOk result (λ k. map task_of k.tasks.items
-        ≡ map (task_in (names_of (draft_of draft.now))) (draft_of draft.now).tasks) }
     ensures kept { IfOk result (λ k. AreKept (numbered (draft_of draft.now))
         k.parents.items k.attached.items k.bound) }
     ensures early { IfOk result (λ k. k.is_early
         ≡ spec.is_early_graph (numbered (draft_of draft.now)).graph) }
 {
-    let tasks = number_tasks(alloc, &checked.names, &draft.tasks)?;
-    let attached = attached(alloc, &tasks, &checked.starts)?;
+    let attached = attached(alloc, &checked.tasks, &checked.starts)?;
     let parents = parents(alloc, &checked.starters)?;
-    let bound = bound(&tasks, checked.tokens.len());
-    let is_early = are_early(&tasks);
+    let bound = bound(&checked.tasks, checked.tokens.len());
+    let is_early = are_early(&checked.tasks);
     Ok(Kept {
-        tasks,
         parents,
         attached,
         bound,
@@ -127,7 +121,7 @@ fn make(alloc: Global, draft: &Draft, checked: Checked) -> Result<Graph, AllocEr
     Ok(Graph {
         names: checked.names,
         tokens: checked.tokens,
-        tasks: kept.tasks,
+        tasks: checked.tasks,
         parents: kept.parents,
         attached: kept.attached,
         sites: checked.sites,

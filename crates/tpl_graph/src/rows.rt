@@ -13,22 +13,9 @@ use crate::row::{OwnRole, Row};
 use std::alloc::{AllocError, Global};
 use tpl_draft::{
     DraftBody, DraftKind, DraftTask, DraftToken, DraftWork, Names, Origin, Tables, number_body,
-    task_id, token_id,
+    task_id, task_ids, token_id,
 };
-use tpl_model::{Body, MOST_TOKENS, Options, Script, TaskId, TokenId};
-
-/// The tasks of a list of names.
-fn task_ids(alloc: Global, tables: &Tables, names: &[String]) -> Result<Vec<TaskId>, AllocError>
-    requires { AreFew (seen tables.now) }
-    ensures { IfOk result (λ v. map task_number v.items
-        ≡ map (place tables.now.tasks) (map string_bytes names.now)) }
-{
-    let mut ids = Vec::new(alloc);
-    for name in names {
-        ids.push(task_id(tables, name.as_str()))?;
-    }
-    Ok(ids)
-}
+use tpl_model::{Body, MOST_TOKENS, Options, Script, TokenId};
 
 fn own_token(tables: &Tables, name: &Option<String>) -> Option<TokenId>
     requires { AreFew (seen tables.now) }
@@ -73,14 +60,14 @@ fn number_work(
     ensures token { IfOk result (λ r. option_map token_number r.token
         ≡ option_map (place tables.now.tokens) (option_map string_bytes work.now.token)) }
     ensures options { IfOk result (λ r. r.options ≡ work.now.options) }
-    ensures plain { IfOk result (λ r. r.is_async ≡ false) }
+    ensures is_async { IfOk result (λ r. r.is_async ≡ work.now.is_async) }
 {
     Ok(Row {
         role,
         script: number_script(alloc, tables, &work.body)?,
         token: own_token(tables, &work.token),
         options: work.options,
-        is_async: false,
+        is_async: work.is_async,
     })
 }
 

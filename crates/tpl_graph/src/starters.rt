@@ -106,7 +106,8 @@ pub(crate) fn starters(alloc: Global, starts: &[Vec<TaskId>]) -> Result<Vec<Star
     Ok(table)
 }
 
-fn parent_of(starter: Starter) -> Option<TaskId>
+/// The only task that starts one, if there is one.
+pub(crate) fn parent_of(starter: Starter) -> Option<TaskId>
     ensures { result ≡ parent_in starter }
 {
     match starter {

@@ -72,7 +72,7 @@ abbrev pub read_answers : Gv → Answers
 read_answers (gcons (gnum f) (gnum c)) = record { may_fail = flagged f; may_cancel = flagged c }
 read_answers _ = record { may_fail = false; may_cancel = false }
 
-read_answers-tree : (a : Answers) → read_answers (answers_tree a) ≡ a
+pub read_answers-tree : (a : Answers) → read_answers (answers_tree a) ≡ a
 read_answers-tree a =
     ap (λ b. record { may_fail = b; may_cancel = flagged (flag a.may_cancel) }) (flagged-flag a.may_fail)
     ∙ ap (λ b. record { may_fail = a.may_fail; may_cancel = b }) (flagged-flag a.may_cancel)
@@ -84,7 +84,7 @@ abbrev pub read_clauses : Gv → Clauses
 read_clauses (gcons (gnum a) (gcons (gnum b) (gnum d))) = record { catch_canceled = flagged a; catch = flagged b; finally = flagged d }
 read_clauses _ = record { catch_canceled = false; catch = false; finally = false }
 
-read_clauses-tree : (c : Clauses) → read_clauses (clauses_tree c) ≡ c
+pub read_clauses-tree : (c : Clauses) → read_clauses (clauses_tree c) ≡ c
 read_clauses-tree c =
     ap (λ b. record { catch_canceled = b; catch = flagged (flag c.catch); finally = flagged (flag c.finally) }) (flagged-flag c.catch_canceled)
     ∙ (ap (λ b. record { catch_canceled = c.catch_canceled; catch = b; finally = flagged (flag c.finally) }) (flagged-flag c.catch)

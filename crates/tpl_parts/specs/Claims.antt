@@ -1,5 +1,5 @@
 -- The claim with names that a JSON value is, `None` where it is none.
-use Rattle.std.specs.Prelude.{ℕ, List, [], ◌∷◌, Option, Some, None, codes, if◌then◌else◌}
+use Rattle.std.specs.Prelude.{ℕ, ◌&&◌, List, [], ◌∷◌, Option, Some, None, codes, if◌then◌else◌}
 use Rattle.std.specs.Str.{bytes_eq}
 use Rattle.serde_json.specs.Data.{Data, string, object}
 use Rattle.serde_json.specs.Find.{get, as_str}
@@ -10,9 +10,9 @@ use Rattle.tpl_json.specs.Members.{◌>>=◌, ◌<$>◌, ◌<*>◌, object_of, h
 use Rattle.tpl_json.specs.Finals.{no_finals, finals_at}
 use Rattle.tpl_parts.specs.declared.version.Version.{Version}
 use Rattle.tpl_parts.specs.Pieces.{name_at}
-use Rattle.tpl_parts.specs.Versions.{is_third, claim_remarks}
+use Rattle.tpl_parts.specs.Versions.{since_third, since_fourth, claim_remarks}
 use Rattle.tpl_parts.specs.Remarks.{claim_name, note_at}
-use Rattle.tpl_parts.specs.NamedClaims.{NamedGiven, GivenInput, GivenQuiet, GivenEnded, GivenSucceeds, GivenNoFailure, GivenNoRequest, NamedClaim}
+use Rattle.tpl_parts.specs.NamedClaims.{NamedGiven, GivenInput, GivenQuiet, GivenEnded, GivenSucceeds, GivenBegins, GivenNever, GivenNoFailure, GivenNoRequest, NamedClaim}
 
 -- the names of one final status at least
 unfoldable pub some_finals : List Data → Option Finals
@@ -42,22 +42,26 @@ ended_at d = object_of (codes "ended" ∷ codes "in" ∷ []) d ((λ task finals.
 unfoldable pub given_word : List ℕ → Option NamedGiven
 given_word word = if bytes_eq word (codes "no_failure") then Some GivenNoFailure else (if bytes_eq word (codes "no_request") then Some GivenNoRequest else None)
 
--- how a task ended, or {"succeeds": site}
-unfoldable pub end_or_job : Data → Option NamedGiven
-end_or_job d = if has_member (codes "ended") d then ended_at d else (GivenSucceeds <$> name_at (codes "succeeds") d)
+-- how a task ended, {"succeeds": site}, or in version 4 {"begins": task} and {"never": task}
+unfoldable pub task_or_job : Version → Data → Option NamedGiven
+task_or_job version d =
+    if has_member (codes "ended") d then ended_at d
+    else if since_fourth version && has_member (codes "begins") d then GivenBegins <$> name_at (codes "begins") d
+    else if since_fourth version && has_member (codes "never") d then GivenNever <$> name_at (codes "never") d
+    else (GivenSucceeds <$> name_at (codes "succeeds") d)
 
--- what only version 3 has
-unfoldable pub later_given : Data → Option NamedGiven
-later_given (string word) = given_word word
-later_given (object ms) = end_or_job (object ms)
-later_given d = None
+-- what versions 3 and 4 add
+unfoldable pub later_given : Version → Data → Option NamedGiven
+later_given version (string word) = given_word word
+later_given version (object ms) = task_or_job version (object ms)
+later_given version d = None
 
--- one thing that is given: the value of an input, {"quiet": token}, or what version 3 adds
+-- one thing that is given: the value of an input, {"quiet": token}, or what later versions add
 unfoldable pub given_at : Version → Data → Option NamedGiven
 given_at version d =
     if has_member (codes "input") d then input_at d
     else if has_member (codes "quiet") d then GivenQuiet <$> name_at (codes "quiet") d
-    else if is_third version then later_given d
+    else if since_third version then later_given version d
     else None
 
 -- ---- what a claim says, beside what it takes as given, its name and its note
@@ -78,9 +82,9 @@ task_said version name d = said_at version name d >>= as_str
 unfoldable pub pair_said : Version → List ℕ → Data → Option (List ℕ × List ℕ)
 pair_said version name d = said_at version name d >>= list_in >>= two_texts
 
--- {"runs": task}, only in version 3
+-- {"runs": task}, since version 3
 unfoldable pub runs_claim : Version → Data → Option (Property (List ℕ))
-runs_claim version d = if is_third version then Runs <$> task_said version (codes "runs") d else None
+runs_claim version d = if since_third version then Runs <$> task_said version (codes "runs") d else None
 
 -- the first of these members that is there says which claim it is
 unfoldable pub property_at : Version → Data → Option (Property (List ℕ))

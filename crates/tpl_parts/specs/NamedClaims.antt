@@ -8,6 +8,8 @@ pub data NamedGiven : Type 0 where
   GivenQuiet : (token : List ℕ) → NamedGiven
   GivenEnded : (task : List ℕ) → (finals : Finals) → NamedGiven
   GivenSucceeds : (site : List ℕ) → NamedGiven
+  GivenBegins : (task : List ℕ) → NamedGiven
+  GivenNever : (task : List ℕ) → NamedGiven
   GivenNoFailure : NamedGiven
   GivenNoRequest : NamedGiven
 

@@ -10,9 +10,9 @@ use Rattle.tpl_json.specs.declared.read.TheConstants.{MOST_NESTED}
 use Rattle.tpl_json.specs.Members.{◌>>=◌, ◌<$>◌, ◌<*>◌, object_of, text_in, list_in, list_or_none, each}
 use Rattle.tpl_draft.specs.Draft.{Worked, Kind, Root, Child, Continues, WhenAll, WhenAny, Task, Token}
 use Rattle.tpl_parts.specs.declared.version.Version.{Version}
-use Rattle.tpl_parts.specs.Versions.{task_remarks}
+use Rattle.tpl_parts.specs.Versions.{body_words, task_remarks}
 use Rattle.tpl_parts.specs.Remarks.{note_at}
-use Rattle.tpl_parts.specs.Statements.{body_at}
+use Rattle.tpl_parts.specs.Statements.{body_at, bool_or_false}
 
 -- the bits of an option word
 unfoldable pub option_at : Data → Option ℕ
@@ -31,20 +31,21 @@ text_or_none (Some d) = (λ text. Some text) <$> as_str d
 -- ---- tasks
 
 -- what a task with a body has; no text of JSON nests deeper than MOST_NESTED
-unfoldable pub work_at : Data → Option Worked
-work_at d = do
-  body ← get (codes "body") d >>= body_at MOST_NESTED
+unfoldable pub work_at : Version → Data → Option Worked
+work_at version d = do
+  body ← get (codes "body") d >>= body_at version MOST_NESTED
   token ← text_or_none (get (codes "token") d)
   options ← list_or_none (get (codes "options") d) >>= options_at 0
-  Some (record { body = body; token = token; options = options })
+  is_async ← bool_or_false (get (codes "async") d)
+  Some (record { body = body; token = token; options = options; is_async = is_async })
 
--- {"body": body, "token": token, "options": [word, ..]} beside name and kind
+-- {"body": body, "token": token, "options": [word, ..]}, in version 4 also "async": true or false, beside name and kind
 unfoldable pub free_at : Version → Data → Option Worked
-free_at version d = object_of (codes "name" ∷ codes "kind" ∷ codes "body" ∷ codes "token" ∷ codes "options" ∷ task_remarks version) d (work_at d)
+free_at version d = object_of (codes "name" ∷ codes "kind" ∷ codes "body" ∷ codes "token" ∷ codes "options" ∷ body_words version) d (work_at version d)
 
 -- the same with "after": task
 unfoldable pub then_at : Version → Data → Option Kind
-then_at version d = object_of (codes "name" ∷ codes "kind" ∷ codes "after" ∷ codes "body" ∷ codes "token" ∷ codes "options" ∷ task_remarks version) d ((λ antecedent work. Continues antecedent work) <$> text_in (codes "after") d <*> work_at d)
+then_at version d = object_of (codes "name" ∷ codes "kind" ∷ codes "after" ∷ codes "body" ∷ codes "token" ∷ codes "options" ∷ body_words version) d ((λ antecedent work. Continues antecedent work) <$> text_in (codes "after") d <*> work_at version d)
 
 -- {"of": [task, ..]} beside name and kind
 unfoldable pub args_at : Version → Data → Option (List (List ℕ))

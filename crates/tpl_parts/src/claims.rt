@@ -2,7 +2,7 @@
 
 ghost use Rattle.std.specs.Prelude.{◌≡◌, map, option_and_then, option_map, IfErr};
 ghost use Rattle.tpl_json.specs.Prelude.{Gives, IsShape, each, list_in, view};
-ghost use Rattle.tpl_parts.specs.Prelude.{claim_at, claim_of, end_or_job, ended_at, final_claim, given_at, given_of, given_word, input_at, later_given, pair_said, property_at, property_of, runs_claim, said_at, some_finals, task_said, two_texts};
+ghost use Rattle.tpl_parts.specs.Prelude.{claim_at, claim_of, ended_at, final_claim, given_at, given_of, given_word, input_at, later_given, pair_said, property_at, property_of, runs_claim, said_at, some_finals, task_or_job, task_said, two_texts};
 
 use crate::named::{NamedClaim, NamedGiven, NamedProperty};
 use crate::pieces::name_of;
@@ -65,22 +65,34 @@ fn given_word<'v>(word: &str) -> Option<NamedGiven<'v>>
     }
 }
 
-#[tactic(auto, unfolding(crate::specs::Claims::end_or_job))]
-fn end_or_job<'v, 't>(value: &'v Value<'t>) -> Result<NamedGiven<'v>, Miss<Shape<'v, 't>>>
-    ensures gives { Gives given_of result (end_or_job (view value.now)) }
+#[tactic(auto, unfolding(crate::specs::Claims::task_or_job))]
+fn task_or_job<'v, 't>(
+    version: Version,
+    value: &'v Value<'t>,
+) -> Result<NamedGiven<'v>, Miss<Shape<'v, 't>>>
+    ensures gives { Gives given_of result (task_or_job version (view value.now)) }
     ensures shape { IfErr result IsShape }
 {
     if find(value, "ended").is_some() {
         return ended_of(value);
     }
+    if version.since_fourth() && find(value, "begins").is_some() {
+        return Ok(NamedGiven::Begins(name_of(value, "begins")?));
+    }
+    if version.since_fourth() && find(value, "never").is_some() {
+        return Ok(NamedGiven::Never(name_of(value, "never")?));
+    }
     let name = name_of(value, "succeeds")?;
     Ok(NamedGiven::Succeeds(name))
 }
 
-/// What only version 3 has.
+/// What versions 3 and 4 add.
 #[tactic(auto, unfolding(crate::specs::Claims::later_given))]
-fn later_given<'v, 't>(value: &'v Value<'t>) -> Result<NamedGiven<'v>, Miss<Shape<'v, 't>>>
-    ensures gives { Gives given_of result (later_given (view value.now)) }
+fn later_given<'v, 't>(
+    version: Version,
+    value: &'v Value<'t>,
+) -> Result<NamedGiven<'v>, Miss<Shape<'v, 't>>>
+    ensures gives { Gives given_of result (later_given version (view value.now)) }
     ensures shape { IfErr result IsShape }
 {
     match value {
@@ -88,7 +100,7 @@ fn later_given<'v, 't>(value: &'v Value<'t>) -> Result<NamedGiven<'v>, Miss<Shap
             None => Err(Miss::Wrong(Shape { at: value })),
             Some(given) => Ok(given),
         },
-        Value::Object(_) => end_or_job(value),
+        Value::Object(_) => task_or_job(version, value),
         _ => Err(Miss::Wrong(Shape { at: value })),
     }
 }
@@ -107,8 +119,8 @@ fn given_of<'v, 't>(
     if find(value, "quiet").is_some() {
         return Ok(NamedGiven::Quiet(name_of(value, "quiet")?));
     }
-    if version.is_third() {
-        return later_given(value);
+    if version.since_third() {
+        return later_given(version, value);
     }
     Err(Miss::Wrong(Shape { at: value }))
 }
@@ -200,7 +212,7 @@ fn pair_said<'v, 't>(
     two_texts(said_of(version, value, name)?)
 }
 
-/// A claim that only version 3 has.
+/// A claim that there is since version 3.
 #[tactic(auto, unfolding(crate::specs::Claims::runs_claim))]
 fn runs_claim<'v, 't>(
     version: Version,
@@ -209,7 +221,7 @@ fn runs_claim<'v, 't>(
     ensures gives { Gives property_of result (runs_claim version (view value.now)) }
     ensures shape { IfErr result IsShape }
 {
-    if !version.is_third() {
+    if !version.since_third() {
         return Err(Miss::Wrong(Shape { at: value }));
     }
     let task = task_said(version, value, "runs")?;

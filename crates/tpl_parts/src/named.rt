@@ -12,9 +12,13 @@ pub enum NamedGiven<'v> {
     Quiet(&'v str),
     /// If the task has ended, it has done so in one of these ways.
     Ended(&'v str, Finals),
-    /// The job of this site doesn't fail.
+    /// The job of this site neither fails nor is canceled.
     Succeeds(&'v str),
-    /// No job fails.
+    /// The task begins.
+    Begins(&'v str),
+    /// The task never begins.
+    Never(&'v str),
+    /// No job fails or is canceled.
     NoFailure,
     /// No token is requested.
     NoRequest,
@@ -43,4 +47,6 @@ pub struct NamedStart<'v, 't> {
     pub request: Vec<&'v str>,
     /// The sites whose jobs fail.
     pub fail: Vec<&'v str>,
+    /// The sites whose jobs are canceled.
+    pub cancel: Vec<&'v str>,
 }

@@ -5,7 +5,7 @@ ghost use Rattle.std.specs.Char.{is_control};
 ghost use Rattle.std.specs.List.{list_all, list_any};
 ghost use Rattle.serde_json.specs.Find.{get};
 ghost use Rattle.tpl_json.specs.Prelude.{Gives, IsShape, has_only, is_one_of, view};
-ghost use Rattle.tpl_parts.specs.Prelude.{claim_name, claim_remarks, is_claim_name, note_at, task_remarks};
+ghost use Rattle.tpl_parts.specs.Prelude.{body_words, claim_name, claim_remarks, is_claim_name, note_at, task_remarks};
 
 use crate::version::Version;
 use json::Value;
@@ -57,6 +57,15 @@ pub(crate) fn has_task_members(version: Version, value: &Value<'_>, names: &[&st
         (view value.now) }
 {
     has_only_beside(value, names, version.task_remarks())
+}
+
+/// Whether the value is an object with no other members than these, and those that versions 3 and 4 add to a task with a
+/// body.
+pub(crate) fn has_body_members(version: Version, value: &Value<'_>, names: &[&str]) -> bool
+    ensures { result ≡ has_only (map (λ s. s.now) names.now ++ body_words version)
+        (view value.now) }
+{
+    has_only_beside(value, names, version.body_words())
 }
 
 /// Whether the value is an object with no other members than these, and those that version 3 adds to each claim.

@@ -10,10 +10,12 @@ ghost use Rattle.tpl_json.specs.Prelude.{Gives, members_from, view};
 ghost use Rattle.tpl_parts.specs.Prelude.{Tests, all_values, has_ends, has_truths, start_at, start_of, start_or_none, truths_or_none};
 
 use crate::named::NamedStart;
+use crate::remarks::has_only_beside;
+use crate::version::Version;
 use json::Value;
 use std::alloc::Global;
 use std::collections::BTreeMap;
-use tpl_json::{Miss, Shape, bool_of, final_of, find, has_only, texts_in};
+use tpl_json::{Miss, Shape, bool_of, final_of, find, texts_in};
 
 fn are_all(passes: &BTreeMap<&str, bool>) -> bool
     ensures { result ≡ list_all (λ b. b) (values passes.now) }
@@ -91,20 +93,24 @@ fn truths_or_none<'v, 't>(
 #[tactic(auto, unfolding(crate::specs::Start::start_at))]
 fn start_of<'v, 't>(
     alloc: Global,
+    version: Version,
     value: &'v Value<'t>,
 ) -> Result<NamedStart<'v, 't>, Miss<Shape<'v, 't>>>
-    ensures { Gives start_of result (start_at (view value.now)) }
+    ensures { Gives start_of result (start_at version (view value.now)) }
 {
-    if !has_only(value, &["inputs", "request", "fail"]) {
+    let names = ["inputs", "request", "fail"];
+    if !has_only_beside(value, &names, version.start_words()) {
         return Err(Miss::Wrong(Shape { at: value }));
     }
     let inputs = truths_or_none(alloc, value, "inputs")?;
     let request = texts_in(alloc, value, "request")?;
     let fail = texts_in(alloc, value, "fail")?;
+    let cancel = texts_in(alloc, value, "cancel")?;
     Ok(NamedStart {
         inputs,
         request,
         fail,
+        cancel,
     })
 }
 
@@ -112,15 +118,16 @@ fn start_of<'v, 't>(
 #[tactic(auto, unfolding(crate::specs::Start::start_or_none))]
 pub fn start_or_none<'v, 't>(
     alloc: Global,
+    version: Version,
     value: Option<&'v Value<'t>>,
 ) -> Result<Option<NamedStart<'v, 't>>, Miss<Shape<'v, 't>>>
     ensures { Gives (λ o. option_map start_of o) result
-        (start_or_none (option_map (λ v. view v.now) value.entry)) }
+        (start_or_none version (option_map (λ v. view v.now) value.entry)) }
 {
     match value {
         None => Ok(None),
         Some(value) => {
-            let start = start_of(alloc, value)?;
+            let start = start_of(alloc, version, value)?;
             Ok(Some(start))
         }
     }

@@ -9,8 +9,8 @@ ghost use Rattle.tpl_parts.specs.Prelude.{args_at, free_at, kind_at, linked_at, 
 ghost use Rattle.tpl_parts.specs.Tasks.{work_at};
 
 use crate::pieces::list_in;
-use crate::remarks::{has_task_members, note_of};
-use crate::statements::body_of;
+use crate::remarks::{has_body_members, has_task_members, note_of};
+use crate::statements::{body_of, bool_or_false};
 use crate::version::Version;
 use json::Value;
 use std::alloc::{AllocError, Global};
@@ -63,18 +63,24 @@ fn text_or_none<'v, 't>(
 }
 
 #[tactic(auto, unfolding(crate::specs::Tasks::work_at))]
-fn work_of<'v, 't>(alloc: Global, value: &'v Value<'t>) -> Result<DraftWork, Miss<Shape<'v, 't>>>
-    ensures { Gives work_of result (work_at (view value.now)) }
+fn work_of<'v, 't>(
+    alloc: Global,
+    version: Version,
+    value: &'v Value<'t>,
+) -> Result<DraftWork, Miss<Shape<'v, 't>>>
+    ensures { Gives work_of result (work_at version (view value.now)) }
 {
     let list = member_in(value, "body")?;
-    let body = body_of(alloc, MOST_NESTED as u32, list)?;
+    let body = body_of(alloc, version, MOST_NESTED as u32, list)?;
     let token = text_or_none(alloc, value, "token")?;
     let words = list_or_none(value, "options")?;
     let options = options_of(words)?;
+    let is_async = bool_or_false(value, "async")?;
     Ok(DraftWork {
         body,
         token,
         options,
+        is_async,
     })
 }
 
@@ -87,14 +93,14 @@ fn free_of<'v, 't>(
 ) -> Result<DraftWork, Miss<Shape<'v, 't>>>
     ensures { Gives work_of result (free_at version (view value.now)) }
 {
-    if !has_task_members(
+    if !has_body_members(
         version,
         value,
         &["name", "kind", "body", "token", "options"],
     ) {
         return Err(Miss::Wrong(Shape { at: value }));
     }
-    work_of(alloc, value)
+    work_of(alloc, version, value)
 }
 
 #[tactic(auto, unfolding(crate::specs::Tasks::then_at))]
@@ -105,7 +111,7 @@ fn then_of<'v, 't>(
 ) -> Result<DraftKind, Miss<Shape<'v, 't>>>
     ensures { Gives kind_of result (then_at version (view value.now)) }
 {
-    if !has_task_members(
+    if !has_body_members(
         version,
         value,
         &["name", "kind", "after", "body", "token", "options"],
@@ -113,7 +119,7 @@ fn then_of<'v, 't>(
         return Err(Miss::Wrong(Shape { at: value }));
     }
     let antecedent = text_in(value, "after")?;
-    let work = work_of(alloc, value)?;
+    let work = work_of(alloc, version, value)?;
     let antecedent = String::from_str(alloc, antecedent)?;
     Ok(DraftKind::Then(antecedent, work))
 }

@@ -1,5 +1,5 @@
 -- Claims with ids in place of names, or what is wrong with the first that can't be asked.
-use Rattle.std.specs.Prelude.{ℕ, zero, suc, ◌+◌, ◌-◌, ◌||◌, Bool, true, false, not, List, [], ◌∷◌, ◌++◌, length, take, filter, nat_le, Option, Some, None, option_map, Result, Ok, ok_or, if◌then◌else◌}
+use Rattle.std.specs.Prelude.{ℕ, zero, suc, ◌+◌, ◌-◌, ◌&&◌, ◌||◌, Bool, true, false, not, List, [], ◌∷◌, ◌++◌, length, take, filter, nat_le, Option, Some, None, option_map, Result, Ok, ok_or, if◌then◌else◌}
 use Rattle.std.specs.List.{list_any}
 use Rattle.std.specs.Str.{bytes_eq}
 use Rattle.tpl_model.specs.declared.ids.TaskId.{TaskId}
@@ -8,16 +8,16 @@ use Rattle.tpl_model.specs.declared.ids.TokenId.{TokenId}
 use Rattle.tpl_model.specs.declared.ids.InputId.{InputId}
 use Rattle.tpl_model.specs.declared.ids.SiteId.{SiteId}
 use Rattle.tpl_model.specs.declared.claim.Given.{Given}
-use Rattle.tpl_model.specs.declared.claim.Given.TheVariants.{Input, Quiet, Ended, Succeeds}
+use Rattle.tpl_model.specs.declared.claim.Given.TheVariants.{Input, Quiet, Ended, Succeeds, Begins, Never}
 use Rattle.tpl_model.specs.declared.claim.Property.{Property}
 use Rattle.tpl_model.specs.Claims.{Claim, try_map}
-use Rattle.tpl_graph.specs.Fits.{have_bodies, is_of_one_thing, given_twice}
+use Rattle.tpl_graph.specs.Fits.{given_bodies, have_bodies, is_of_one_thing, given_twice}
 use Rattle.tpl_draft.specs.Named.{Names, Named}
 use Rattle.tpl_cert.specs.Naming.{number_of}
-use Rattle.tpl_parts.specs.NamedClaims.{NamedGiven, GivenInput, GivenQuiet, GivenEnded, GivenSucceeds, GivenNoFailure, GivenNoRequest, NamedClaim}
+use Rattle.tpl_parts.specs.NamedClaims.{NamedGiven, GivenInput, GivenQuiet, GivenEnded, GivenSucceeds, GivenBegins, GivenNever, GivenNoFailure, GivenNoRequest, NamedClaim}
 use Rattle.tpl_json.specs.Members.{only_if}
 use Rattle.tpl_parts.specs.declared.version.Version.{Version}
-use Rattle.tpl_parts.specs.declared.version.Version.TheVariants.{One, Two, Three}
+use Rattle.tpl_parts.specs.declared.version.Version.TheVariants.{One, Two, Three, Four}
 use Rattle.tpl_json.specs.Passes.{◌>>=◌, each_from, all_or, at_number}
 use Rattle.tpl_reader.specs.declared.fault.ClaimFault.{ClaimFault}
 use Rattle.tpl_reader.specs.declared.fault.ClaimFault.TheVariants as faults
@@ -40,6 +40,8 @@ given_in n (GivenInput name value) = option_map (λ i. Input i value) (input_in 
 given_in n (GivenQuiet name) = option_map Quiet (token_in n name)
 given_in n (GivenEnded name finals) = option_map (λ t. Ended t finals) (task_in n name)
 given_in n (GivenSucceeds name) = option_map Succeeds (site_in n name)
+given_in n (GivenBegins name) = option_map Begins (task_in n name)
+given_in n (GivenNever name) = option_map Never (task_in n name)
 given_in n GivenNoFailure = None
 given_in n GivenNoRequest = None
 
@@ -101,7 +103,7 @@ unfoldable pub claim_in : Named → NamedClaim → Result Claim ClaimFault
 claim_in g c = do
   singles ← singles_in g.names c.given
   body ← ok_or (property_in g.names c.body) faults.Unknown
-  bodies ← ok_or (only_if (have_bodies g.graph body)) faults.NoBody
+  bodies ← ok_or (only_if (have_bodies g.graph body && given_bodies g.graph singles)) faults.NoBody
   once ← ok_or (only_if (not (given_twice singles || says_twice c.given))) faults.GivenTwice
   Ok (record { given = with_all g.names c.given singles; body = body })
 
@@ -134,6 +136,7 @@ abbrev pub most_claims : Version → ℕ
 most_claims One = MOST_EARLY_CLAIMS
 most_claims Two = MOST_EARLY_CLAIMS
 most_claims Three = MOST_CLAIMS
+most_claims Four = MOST_CLAIMS
 
 -- the claims of a document; the first past the most is one too many
 unfoldable pub claims_for : Version → Named → List NamedClaim → Result (List Claim) (ℕ × ClaimFault)

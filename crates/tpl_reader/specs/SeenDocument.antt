@@ -17,7 +17,7 @@ use Rattle.tpl_reader.specs.Shape.{Spelled}
 use Rattle.tpl_reader.specs.Document.{DocumentValue}
 
 abbrev pub value_of : start.Start → StartValue
-value_of s = record { inputs = s.inputs; request = map token_number s.request.items; fail = map site_number s.fail.items }
+value_of s = record { inputs = s.inputs; request = map token_number s.request.items; fail = map site_number s.fail.items; cancel = map site_number s.cancel.items }
 
 abbrev pub doc_of : document.Document → DocumentValue
 doc_of d = record { version = d.version; graph = d.graph; claims = d.claims.items; names = map (λ n. option_map string_bytes n) d.names.items; certificate = d.certificate; journal = string_bytes d.journal; start = option_map value_of d.start; ended = d.ended.items; times = option_map (λ v. v.items) d.times }

@@ -3,6 +3,7 @@ use Rattle.std.specs.Prelude.{ℕ, List, Option, Result, Ok, ok_or}
 use Rattle.serde_json.specs.Data.{Data}
 use Rattle.tpl_draft.specs.Draft.{Draft}
 use Rattle.tpl_parts.specs.declared.version.Version.{Version}
+use Rattle.tpl_parts.specs.Versions.{scale_of}
 use Rattle.tpl_parts.specs.NamedClaims.{NamedClaim}
 use Rattle.tpl_parts.specs.Tasks.{task_at}
 use Rattle.tpl_parts.specs.Claims.{claim_at}
@@ -33,5 +34,5 @@ spelled_at d = do
   top ← ok_or (top_at d) part.Top
   tasks ← parts_in part.Task (task_at top.version) top.tasks
   claims ← parts_in part.Claim (claim_at top.version) top.claims
-  start ← ok_or (start_or_none top.start) part.Start
-  Ok (record { version = top.version; draft = record { inputs = top.inputs; tokens = top.tokens; tasks = tasks }; claims = claims; certificate = top.certificate; journal = top.journal; start = start; ended = top.ended; times = top.times })
+  start ← ok_or (start_or_none top.version top.start) part.Start
+  Ok (record { version = top.version; draft = record { scale = scale_of top.version; inputs = top.inputs; tokens = top.tokens; tasks = tasks }; claims = claims; certificate = top.certificate; journal = top.journal; start = start; ended = top.ended; times = top.times })

@@ -5,7 +5,7 @@ use Rattle.serde_json.specs.Find.{get, as_str, as_number, as_u64}
 use Rattle.tpl_json.specs.Members.{◌>>=◌, only_if, has_only, list_in, list_or_none, each}
 use Rattle.tpl_draft.specs.Draft.{Token}
 use Rattle.tpl_parts.specs.declared.version.Version.{Version}
-use Rattle.tpl_parts.specs.declared.version.Version.TheVariants.{One, Two, Three}
+use Rattle.tpl_parts.specs.declared.version.Version.TheVariants.{One, Two, Three, Four}
 use Rattle.tpl_parts.specs.Versions.{has_links}
 use Rattle.tpl_parts.specs.Remarks.{note_at}
 use Rattle.tpl_parts.specs.Ends.{has_ends}
@@ -30,7 +30,7 @@ whole_at d = option_and_then as_u64 (as_number d)
 
 -- the version of this number
 unfoldable pub version_in : ℕ → Option Version
-version_in number = if number == 1 then Some One else (if number == 2 then Some Two else (if number == 3 then Some Three else None))
+version_in number = if number == 1 then Some One else (if number == 2 then Some Two else (if number == 3 then Some Three else (if number == 4 then Some Four else None)))
 
 -- a text, which is empty where it isn't there
 unfoldable pub text_or_empty : Option Data → Option (List ℕ)
@@ -46,6 +46,7 @@ abbrev pub added : Version → List (List ℕ)
 added One = []
 added Two = []
 added Three = codes "note" ∷ codes "ended" ∷ codes "times" ∷ codes "$schema" ∷ []
+added Four = codes "note" ∷ codes "ended" ∷ codes "times" ∷ codes "$schema" ∷ []
 
 -- how tasks were seen to end, if that is said
 unfoldable pub ends_or_none : Option Data → Option (Option Data)

@@ -10,7 +10,7 @@ ghost use Rattle.tpl_reader.specs.Prelude.{claim_behind, claim_in, claims_in, gi
 
 use crate::fault::ClaimFault;
 use std::alloc::Global;
-use tpl_graph::{Claim, Graph, given_twice, have_bodies};
+use tpl_graph::{Claim, Graph, given_bodies, given_twice, have_bodies};
 use tpl_json::{Miss, at_number};
 use tpl_model::{Given, InputId, Property, SiteId, TaskId, TokenId};
 use tpl_parts::{NamedClaim, NamedGiven, NamedProperty};
@@ -62,6 +62,14 @@ fn given_in(graph: &Graph, given: &NamedGiven) -> Option<Given>
         },
         NamedGiven::Succeeds(name) => match site_in(graph, name) {
             Some(site) => Some(Given::Succeeds(site)),
+            None => None,
+        },
+        NamedGiven::Begins(name) => match task_in(graph, name) {
+            Some(task) => Some(Given::Begins(task)),
+            None => None,
+        },
+        NamedGiven::Never(name) => match task_in(graph, name) {
+            Some(task) => Some(Given::Never(task)),
             None => None,
         },
         NamedGiven::NoFailure | NamedGiven::NoRequest => None,
@@ -247,7 +255,7 @@ fn claim_in(alloc: Global, graph: &Graph, claim: &NamedClaim) -> Result<Claim, M
         None => return Err(Miss::Wrong(ClaimFault::Unknown)),
         Some(body) => body,
     };
-    if !have_bodies(graph, body) {
+    if !(have_bodies(graph, body) && given_bodies(graph, &singles)) {
         return Err(Miss::Wrong(ClaimFault::NoBody));
     }
     if is_given_twice(&singles, &claim.given) {

@@ -2,11 +2,12 @@
 
 ghost use Rattle.std.specs.Prelude.{◌≡◌, ◌<◌, length, map, ok_or, IfErr, option_map, All};
 ghost use Rattle.std.specs.List.{list_all};
+ghost use Rattle.tpl_model.specs.Prelude.{mem};
 ghost use Rattle.tpl_cert.specs.Prelude.{is_declared, number_of};
 ghost use Rattle.tpl_draft.specs.Prelude.{site_number, token_number};
 ghost use Rattle.tpl_json.specs.Prelude.{Yields, view};
 ghost use Rattle.tpl_parts.specs.Prelude.{start_of};
-ghost use Rattle.tpl_reader.specs.Prelude.{begin_in, knows_members, may_all_fail, may_fail, numbers_in, start_if_any, start_in, truth_at, truths_in, value_of};
+ghost use Rattle.tpl_reader.specs.Prelude.{begin_in, knows_members, may_all_cancel, may_all_fail, may_cancel, may_fail, numbers_in, start_if_any, start_in, truth_at, truths_in, value_of};
 
 use crate::document::Start;
 use crate::ends::knows_ends;
@@ -123,6 +124,35 @@ fn may_all_fail(graph: &Graph, sites: &[SiteId]) -> bool
     true
 }
 
+fn is_among(sites: &[SiteId], site: SiteId) -> bool
+    ensures { result ≡ mem site.0 (map site_number sites.now) }
+{
+    sites.iter().any(|other| *other == site)
+}
+
+/// Whether the job of the site may be canceled, and isn't one that is to fail.
+#[tactic(auto, using(crate::proofs::Begins::cancels))]
+fn may_cancel(graph: &Graph, fail: &[SiteId], site: SiteId) -> bool
+    requires { site.0 < length graph.now.names.sites }
+    ensures { result ≡ may_cancel graph.now.graph (map site_number fail.now) site.0 }
+{
+    graph.site_may_cancel(site) && !is_among(fail, site)
+}
+
+/// Whether the job of each of the sites may be canceled, and isn't one that is to fail.
+fn may_all_cancel(graph: &Graph, fail: &[SiteId], sites: &[SiteId]) -> bool
+    requires { All (λ s. s.0 < length graph.now.names.sites) sites.now }
+    ensures { result ≡ may_all_cancel graph.now.graph (map site_number fail.now)
+        (map site_number sites.now) }
+{
+    for site in sites {
+        if !may_cancel(graph, fail, *site) {
+            return false;
+        }
+    }
+    true
+}
+
 /// The start with ids in place of names.
 #[tactic(auto, unfolding(crate::specs::Begin::start_in))]
 fn start_in(alloc: Global, graph: &Graph, start: &NamedStart) -> Result<Start, Miss<StartFault>>
@@ -133,6 +163,7 @@ fn start_in(alloc: Global, graph: &Graph, start: &NamedStart) -> Result<Start, M
     }
     let request = tokens_in(alloc, graph, &start.request)?;
     let fail = sites_in(alloc, graph, &start.fail)?;
+    let cancel = sites_in(alloc, graph, &start.cancel)?;
     let inputs = match values_in(graph, start.inputs) {
         None => return Err(Miss::Wrong(StartFault::Missing)),
         Some(inputs) => inputs,
@@ -140,10 +171,14 @@ fn start_in(alloc: Global, graph: &Graph, start: &NamedStart) -> Result<Start, M
     if !may_all_fail(graph, &fail) {
         return Err(Miss::Wrong(StartFault::FailNot));
     }
+    if !may_all_cancel(graph, &fail, &cancel) {
+        return Err(Miss::Wrong(StartFault::CancelNot));
+    }
     Ok(Start {
         inputs,
         request,
         fail,
+        cancel,
     })
 }
 

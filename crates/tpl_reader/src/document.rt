@@ -17,6 +17,8 @@ pub struct Start {
     pub request: Vec<TokenId>,
     /// The sites whose jobs fail.
     pub fail: Vec<SiteId>,
+    /// The sites whose jobs are canceled.
+    pub cancel: Vec<SiteId>,
 }
 
 /// A document.
@@ -26,11 +28,11 @@ pub struct Document {
     pub version: Version,
     /// The tasks, tokens and inputs.
     pub graph: Graph,
-    /// The claims, each of which can be asked of the graph: at most 64, or 1,024 in version 3.
+    /// The claims, each of which can be asked of the graph: at most 64, or 1,024 since version 3.
     pub claims: Vec<Claim>,
     /// The names of the claims, one for each, as far as they have any; no two have the same.
     pub names: Vec<Option<String>>,
-    /// The trees of its certificate; only those of version 3 may speak of tokens and of winners. How many there are is
+    /// The trees of its certificate; only those since version 3 may speak of tokens and of winners. How many there are is
     /// not tested.
     pub certificate: Certificate,
     /// A journal, which is not read yet; empty where there is none.

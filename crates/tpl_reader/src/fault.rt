@@ -30,16 +30,17 @@ pub enum Part {
 /// What is wrong with a claim. The least that applies is named, in this order.
 #[derive(Clone, Copy, Debug, PartialEq, Eq, Error)]
 pub enum ClaimFault {
-    /// More than 64 claims, or 1,024 in version 3; at the first one too many.
+    /// More than 64 claims, or 1,024 since version 3; at the first one too many.
     #[error("TooMany")]
     TooMany,
     /// A name isn't the graph's.
     #[error("Unknown")]
     Unknown,
-    /// It says of a WhenAll or WhenAny task, which has no body, what can only be said of a body.
+    /// It says or takes as given of a WhenAll or WhenAny task, which has no body, what can only be said of a body.
     #[error("NoBody")]
     NoBody,
-    /// An input, a token, the end of a task or a job is given twice, or that no job fails, or that no token is requested.
+    /// An input, a token, the end of a task, whether a task begins, or a job is given twice, or that no job fails, or that
+    /// no token is requested.
     #[error("GivenTwice")]
     GivenTwice,
     /// An earlier claim has its name.
@@ -59,6 +60,9 @@ pub enum StartFault {
     /// The job of a site that is to fail may not fail.
     #[error("FailNot")]
     FailNot,
+    /// The job of a site that is to be canceled may not be canceled, or is to fail too.
+    #[error("CancelNot")]
+    CancelNot,
 }
 
 /// Why a document isn't read. The least that applies is named, in this order, each looked for in the whole document

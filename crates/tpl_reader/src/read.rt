@@ -37,7 +37,7 @@ pub fn most_claims(version: Version) -> usize
 {
     match version {
         Version::One | Version::Two => MOST_EARLY_CLAIMS,
-        Version::Three => MOST_CLAIMS,
+        Version::Three | Version::Four => MOST_CLAIMS,
     }
 }
 
@@ -185,7 +185,7 @@ fn document_from(alloc: Global, value: &Value<'_>) -> Result<Document, ReadFault
 }
 
 /// The document that the bytes spell: a JSON text in UTF-8 as `serde_json` reads it, of at most 16,777,216 bytes and 127
-/// levels, whose version is 1, 2 or 3. One byte order mark at the front is passed over. Each claim can be asked of its graph, and each tree is within the limits, so that the
+/// levels, whose version is 1 to 4. One byte order mark at the front is passed over. Each claim can be asked of its graph, and each tree is within the limits, so that the
 /// certificate can be checked. Else the least `ReadFault` that applies to the whole document, or `Memory`.
 pub fn read_document(alloc: Global, bytes: &[u8]) -> Result<Document, ReadFault>
     ensures ok { IfOk result (λ d. Spells bytes.now (doc_of d)) }

@@ -41,8 +41,12 @@ pub(crate) fn shape_of<'v, 't>(
     let members = or_fault(members_of(alloc, value), Part::Top)?;
     let tasks = tasks_of(alloc, members.version, members.tasks)?;
     let claims = claims_of(alloc, members.version, members.claims)?;
-    let start = or_fault(start_or_none(alloc, members.start), Part::Start)?;
+    let start = or_fault(
+        start_or_none(alloc, members.version, members.start),
+        Part::Start,
+    )?;
     let draft = Draft {
+        scale: members.version.scale(),
         inputs: members.inputs,
         tokens: members.tokens,
         tasks,

@@ -53,11 +53,12 @@ fn version_in(number: u64) -> Option<Version>
         1 => Some(Version::One),
         2 => Some(Version::Two),
         3 => Some(Version::Three),
+        4 => Some(Version::Four),
         _ => None,
     }
 }
 
-/// The version that a document's member "version" names: 1, 2 or 3. Any other value has the wrong shape.
+/// The version that a document's member "version" names: 1 to 4. Any other value has the wrong shape.
 #[tactic(auto, unfolding(crate::specs::Top::version_at))]
 pub fn version_of<'v, 't>(value: &'v Value<'t>) -> Result<Version, Miss<Shape<'v, 't>>>
     ensures gives { Gives (λ v. v) result (version_at (view value.now)) }
@@ -97,7 +98,7 @@ fn added(version: Version) -> &'static [&'static str]
 {
     match version {
         Version::One | Version::Two => &[],
-        Version::Three => &["note", "ended", "times", "$schema"],
+        Version::Three | Version::Four => &["note", "ended", "times", "$schema"],
     }
 }
 
