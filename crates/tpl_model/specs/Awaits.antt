@@ -95,7 +95,7 @@ pub data IsHead (g : TaskGraph) : ℕ → ℕ → Type 0 where
 -- x is a child that the body of a parent of t had surely started where it starts t, or that the body of a parent of that
 -- parent had where it starts the parent, and so on
 pub data IsOlder (g : TaskGraph) (x : ℕ) : ℕ → Type 0 where
-  brother : {t p : ℕ} → IsParent g p t → IsParent g p x → started_before t x (body g p) none_started ≡ true → IsOlder g x t
+  brother : {t : ℕ} (p : ℕ) → IsParent g p t → IsParent g p x → started_before t x (body g p) none_started ≡ true → IsOlder g x t
   of_parent : {t p : ℕ} → IsParent g p t → IsOlder g x p → IsOlder g x t
 
 -- t may await x at a place at which these children are surely started: x is no child and declared before the head of t;

@@ -1,15 +1,18 @@
 -- What is left of a body behind a statement, and how it is kept: as lists that are open, with their marks.
-use Rattle.std.specs.Prelude.{◌≡◌, ℕ, zero, suc, ◌+◌, ◌≤◌, ◌<◌, Bool, List, Option, Some, None, slice_get, max, if◌then◌else◌}
+use Rattle.std.specs.Prelude.{◌≡◌, ℕ, zero, suc, ◌+◌, ◌*◌, ◌≤◌, ◌<◌, Bool, true, false, List, [], ◌∷◌, Option, Some, None, slice_get, length, max, if◌then◌else◌}
+use Rattle.tpl_model.specs.declared.body.Stmt.{Stmt}
+use Rattle.tpl_model.specs.declared.cursor.Behind.{Behind}
+use Rattle.tpl_model.specs.declared.cursor.Behind.TheVariants.{List as TheList, Out}
 use Rattle.tpl_model.specs.declared.cursor.Level.{Level}
 use Rattle.tpl_model.specs.declared.cursor.Mark.{Mark}
 use Rattle.tpl_model.specs.declared.cursor.Mark.TheVariants as mark
 use Rattle.tpl_model.specs.declared.outcome.UnderWay.{UnderWay}
 use Rattle.tpl_model.specs.declared.outcome.UnderWay.TheVariants.{GoingOn}
 use Rattle.tpl_model.specs.declared.limits.TheConstants.{MOST_LEVELS}
-use Rattle.tpl_model.specs.Statements.{Statement, Statements, If, When, AwaitAny, Trying, Caught, Leaving, Nothing, ◌⨾◌, followed_by}
-use Rattle.tpl_model.specs.Seen.{statements_of}
-use Rattle.tpl_model.specs.Limits.{level_count}
-use Rattle.tpl_model.specs.Rests.{rest_at}
+use Rattle.tpl_model.specs.Statements.{Statement, Statements, If, When, AwaitAny, Try, Trying, Caught, Leaving, Nothing, ◌⨾◌, followed_by}
+use Rattle.tpl_model.specs.Seen.{statement_of, statements_of}
+use Rattle.tpl_model.specs.Limits.{level_count, levels_in, statement_count}
+use Rattle.tpl_model.specs.Rests.{Rest, rest_at}
 
 -- the list begins with the statement
 abbrev pub BeginsWith : Statements → Statement → Type 0
@@ -54,10 +57,32 @@ abbrev pub left_at : List Level → ℕ → Statements
 left_at levels zero = Nothing
 left_at levels (suc d) = level_before (slice_get levels d) (left_at levels d)
 
--- the levels that a list and its mark take
-abbrev pub level_depth : Option Level → ℕ
-level_depth None = 0
-level_depth (Some l) = level_count (statements_of l.left.now)
+-- the innermost list that is open, if one is
+abbrev pub innermost : List Level → ℕ → Option Level
+innermost levels zero = None
+innermost levels (suc d) = slice_get levels d
+
+-- where nothing is under way the statement comes next: it is no try and no mark
+abbrev pub comes_next : Statement → Bool
+comes_next (Try c list canceled caught finally) = false
+comes_next (Trying c canceled caught finally) = false
+comes_next (Caught thrown finally) = false
+comes_next (Leaving way) = false
+comes_next s = true
+
+-- a list begins with a statement that comes next
+abbrev pub begins : List Stmt → Bool
+begins [] = false
+begins (s ∷ rest) = comes_next (statement_of s)
+
+-- so does the list, if there is one
+abbrev pub StandsIn : Option Level → Type 0
+StandsIn None = Unit {0}
+StandsIn (Some l) = begins l.left.now ≡ true
+
+-- no list is open, or the innermost one begins with a statement that comes next
+abbrev pub Stands : List Level → ℕ → Type 0
+Stands levels depth = StandsIn (innermost levels depth)
 
 -- the levels that the lists of a mark take, which come in the place of the list before it
 abbrev pub mark_depth : Mark → ℕ
@@ -66,10 +91,57 @@ mark_depth (mark.Trying h) = max (level_count h.canceled.now) (max (level_count 
 mark_depth (mark.Caught thrown finally) = level_count finally.now
 mark_depth (mark.Leaving way) = 0
 
--- at most MOST_LEVELS lists are open, and what is left of each nests no deeper than the levels below it allow, nor do the
--- lists of its mark; what is left begins with a statement that is no try, or nothing is left
+-- the levels that a list and its mark take
+abbrev pub level_depth : Option Level → ℕ
+level_depth None = 0
+level_depth (Some l) = max (level_count (statements_of l.left.now)) (mark_depth l.mark)
+
+-- there is room for MOST_LEVELS lists, no more are open, and each nests with its mark no deeper than the levels below it
+-- allow
 pub record FitsLevels (levels : List Level) (depth : ℕ) : Type 0 where
+  pub size : length levels ≡ MOST_LEVELS
   pub depth_fits : depth ≤ MOST_LEVELS
   pub lists : (d : ℕ) → d < depth → level_depth (slice_get levels d) + d ≤ MOST_LEVELS
-  pub marks : (d : ℕ) (l : Level) → d < depth → slice_get levels d ≡ Some l → mark_depth l.mark + d ≤ MOST_LEVELS
-  pub stands : rest_at (left_at levels depth) GoingOn ≡ record { left = left_at levels depth; way = GoingOn }
+
+-- the lists of a script that runs fit, and it stands before its next statement or at its end
+pub record IsCursor (levels : List Level) (depth : ℕ) : Type 0 where
+  pub fits : FitsLevels levels depth
+  pub stands : Stands levels depth
+
+-- how often one may still go on from a mark to a list before the next statement
+abbrev pub turns_at : Statement → ℕ
+turns_at (Trying c canceled caught finally) = 2
+turns_at (Caught thrown finally) = 1
+turns_at s = 0
+
+-- a bound on how often tries are entered and lists are left behind one another before a statement is passed
+abbrev pub turns : Statements → ℕ
+turns Nothing = 0
+turns (s ⨾ rest) = turns_at s + 5 * statement_count (s ⨾ Nothing) + turns rest
+
+-- what is left where a body goes on there, then what follows
+abbrev pub left_behind : Behind → Statements → Rest
+left_behind (TheList l) more = rest_at (level_before (Some l) more) GoingOn
+left_behind (Out way) more = rest_at more way
+
+-- the levels that the list takes with which a body goes on
+abbrev pub depth_behind : Behind → ℕ
+depth_behind (TheList l) = level_depth (Some l)
+depth_behind (Out way) = 0
+
+-- that bound, where a body goes on there, and one more
+abbrev pub turns_behind : Behind → ℕ
+turns_behind (TheList l) = suc (turns (level_before (Some l) Nothing))
+turns_behind (Out way) = 0
+
+-- a body goes on there behind a list with this mark, if this is under way
+pub record ComesBehind (mark : Mark) (way : UnderWay) (next : Behind) : Type 0 where
+  pub left : (more : Statements) → rest_at (marked mark more) way ≡ left_behind next more
+  pub nests : depth_behind next ≤ mark_depth mark
+  pub falls : turns_behind next ≤ turns (marked mark Nothing)
+
+-- a statement that is come to, where nothing is under way, goes on with this list
+pub record IsEntered (s : Statement) (l : Level) : Type 0 where
+  pub left : (more : Statements) → rest_at (s ⨾ more) GoingOn ≡ rest_at (level_before (Some l) more) GoingOn
+  pub nests : level_depth (Some l) < levels_in s
+  pub falls : turns (level_before (Some l) Nothing) + 2 ≤ turns (s ⨾ Nothing)

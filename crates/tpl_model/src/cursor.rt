@@ -1,7 +1,7 @@
 //! What is left of a body while it runs.
 
-ghost use Rattle.std.specs.Prelude.{◌≡◌, ◌<◌, MatchOption, IfSome};
-ghost use Rattle.tpl_model.specs.Prelude.{BeginsWith, Nothing, behind, behind_choice, caught_by, caught_in, chosen, level_count, levels_in, rest_at, statement_of};
+ghost use Rattle.std.specs.Prelude.{◌≡◌, ◌<◌, ◌≤◌, ◌-◌, ◌+◌, Some, true, MatchOption, IfSome, length, slice_set};
+ghost use Rattle.tpl_model.specs.Prelude.{BeginsWith, ComesBehind, FitsLevels, IsEntered, Nothing, Stands, behind, behind_choice, caught_by, caught_in, chosen, comes_next, innermost, left_at, level_count, levels_in, rest_at, statement_of, statements_of};
 
 use crate::body::{Body, Stmt};
 use crate::clauses::Clauses;
@@ -55,13 +55,108 @@ pub(crate) struct Level<'a> {
     mark: Mark<'a>,
 }
 
-/// What is left of a script while it runs. It borrows the script, and keeps what is left of each list of
-/// statements that it stands in, the outermost first. It stands before a statement that is no `try`, or at
-/// the end: a `try` is entered and the end of a list is left at once.
-#[derive(Drop)]
-pub struct Cursor<'a> {
+/// The lists of statements that are open in a script that runs, the outermost first.
+#[derive(Clone, Copy)]
+pub(crate) struct OpenLists<'a> {
     levels: [Level<'a>; LEVELS],
     depth: usize,
+}
+
+impl<'a> OpenLists<'a> {
+    /// The innermost list that is open, if one is.
+    fn innermost(&self) -> Option<Level<'a>>
+        requires { self.now.depth ≤ LEVELS }
+        ensures { result ≡ innermost self.now.levels self.now.depth }
+    {
+        if self.depth == 0 {
+            return None;
+        }
+        let levels = &self.levels[..];
+        Some(levels[self.depth - 1])
+    }
+
+    /// Puts a list in the place of the innermost one.
+    fn replace(&mut self, level: Level<'a>)
+        requires { (0 < self.old.depth) × (self.old.depth ≤ LEVELS) }
+        ensures depth { self.new.depth ≡ self.old.depth }
+        ensures levels { self.new.levels ≡ slice_set self.old.levels
+            (self.old.depth - 1) level.entry }
+    {
+        let place = self.depth - 1;
+        let levels = &mut self.levels[..];
+        levels[place] = level;
+    }
+
+    /// Opens a list inside the innermost one.
+    fn open(&mut self, level: Level<'a>)
+        requires { self.old.depth < LEVELS }
+        ensures depth { self.new.depth ≡ self.old.depth + 1 }
+        ensures levels { self.new.levels ≡ slice_set self.old.levels self.old.depth
+            level.entry }
+    {
+        let place = self.depth;
+        let levels = &mut self.levels[..];
+        levels[place] = level;
+        self.depth = place + 1;
+    }
+
+    /// Leaves the next statement of the innermost list out, which is this one.
+    fn skip(&mut self, level: Level<'a>)
+        requires innermost { innermost self.old.levels self.old.depth ≡ Some level }
+        requires some { 0 < length level.left.now }
+        requires fits { FitsLevels self.old.levels self.old.depth }
+        ensures left { left_at self.new.levels self.new.depth
+            ≡ behind (left_at self.old.levels self.old.depth) }
+        ensures depth { self.new.depth ≡ self.old.depth }
+        ensures fits { FitsLevels self.new.levels self.new.depth }
+    {
+        self.replace(Level {
+            left: &level.left[1..],
+            mark: level.mark,
+        });
+    }
+
+    /// Goes to where the next statement stands if this is under way before what is left: enters each `try`,
+    /// and leaves each list that is over. Returns what is under way where nothing is left.
+    fn come(&mut self, way: UnderWay) -> UnderWay
+        requires { FitsLevels self.old.levels self.old.depth }
+        ensures comes { rest_at (left_at self.old.levels self.old.depth) way
+            ≡ record { left = left_at self.new.levels self.new.depth; way = result } }
+        ensures fits { FitsLevels self.new.levels self.new.depth }
+        ensures stands { Stands self.new.levels self.new.depth }
+    {
+        let mut way = way;
+        while let Some(level) = self.innermost() {
+            match level.left.first() {
+                Some(statement) if way == UnderWay::GoingOn => match tried(statement) {
+                    Some(inner) => {
+                        self.skip(level);
+                        self.open(inner);
+                    }
+                    None => return way,
+                },
+                _ => match behind_list(level.mark, way) {
+                    Behind::List(next) => {
+                        self.replace(next);
+                        way = UnderWay::GoingOn;
+                    }
+                    Behind::Out(further) => {
+                        self.depth -= 1;
+                        way = further;
+                    }
+                },
+            }
+        }
+        way
+    }
+}
+
+/// What is left of a script while it runs. It borrows the script, and keeps what is left of each list of
+/// statements that it stands in. It stands before a statement that is no `try`, or at the end: a `try` is
+/// entered and the end of a list is left at once.
+#[derive(Drop)]
+pub struct Cursor<'a> {
+    open: OpenLists<'a>,
 }
 
 impl<'a> Model for Cursor<'a> {
@@ -72,11 +167,11 @@ impl<'a> Model for Cursor<'a> {
 
     ghost coded = { statements_code };
 
-    ghost use Rattle.tpl_model.specs.Cursor.{left_at, FitsLevels};
+    ghost use Rattle.tpl_model.specs.Cursor.{left_at, IsCursor};
 
-    ghost view = { λ r. left_at r.levels r.depth };
+    ghost view = { λ r. left_at r.open.levels r.open.depth };
 
-    ghost invariant = { λ r. FitsLevels r.levels r.depth };
+    ghost invariant = { λ r. IsCursor r.open.levels r.open.depth };
 }
 
 impl<'a> Cursor<'a> {
@@ -89,22 +184,19 @@ impl<'a> Cursor<'a> {
             left: script.body().list(),
             mark: Mark::Plain,
         };
-        let mut cursor = Cursor {
+        let mut open = OpenLists {
             levels: [level; LEVELS],
             depth: 1,
         };
-        let _ = cursor.come(UnderWay::GoingOn);
-        cursor
+        let _ = open.come(UnderWay::GoingOn);
+        Cursor { open }
     }
 
     /// A copy.
     pub fn copy(&self) -> Cursor<'a>
         ensures { result ≡ self.now }
     {
-        Cursor {
-            levels: self.levels,
-            depth: self.depth,
-        }
+        Cursor { open: self.open }
     }
 
     /// The next statement, if one is left. It is no `try`.
@@ -112,12 +204,10 @@ impl<'a> Cursor<'a> {
         ensures { MatchOption result (self.now ≡ Nothing)
             (λ s. BeginsWith self.now (statement_of s.now)) }
     {
-        if self.depth == 0 {
-            return None;
+        match self.open.innermost() {
+            Some(level) => level.left.first(),
+            None => None,
         }
-        let levels = &self.levels[..];
-        let level = levels[self.depth - 1];
-        level.left.first()
     }
 
     /// Passes the next statement, if one is left. What is under way behind it goes outwards to where it is
@@ -125,8 +215,10 @@ impl<'a> Cursor<'a> {
     pub fn pass(&mut self, way: UnderWay) -> UnderWay
         ensures { rest_at (behind self.old) way ≡ record { left = self.new; way = result } }
     {
-        self.skip();
-        self.come(way)
+        if let Some(level) = self.open.innermost() {
+            self.open.skip(level);
+        }
+        self.open.come(way)
     }
 
     /// Passes the next statement, and goes on with the first or the second list of an `if`, a `when` or an
@@ -135,23 +227,28 @@ impl<'a> Cursor<'a> {
         ensures { rest_at (behind_choice self.old first) UnderWay.GoingOn
             ≡ record { left = self.new; way = result } }
     {
-        let chosen = match self.first() {
-            Some(statement) => chosen_list(statement, first),
-            None => None,
-        };
-        self.skip();
-        if let Some(body) = chosen {
-            self.open(body.list(), Mark::Plain);
+        if let Some(level) = self.open.innermost() {
+            let chosen = match level.left.first() {
+                Some(statement) => chosen_list(statement, first),
+                None => None,
+            };
+            self.open.skip(level);
+            if let Some(body) = chosen {
+                self.open.open(Level {
+                    left: body.list(),
+                    mark: Mark::Plain,
+                });
+            }
         }
-        self.come(UnderWay::GoingOn)
+        self.open.come(UnderWay::GoingOn)
     }
 
     /// What the nearest `catch` around the next statement caught; nothing where there is none.
     pub fn caught(&self) -> UnderWay
         ensures { result ≡ caught_in self.now }
     {
-        let levels = &self.levels[..];
-        let mut depth = self.depth;
+        let levels = &self.open.levels[..];
+        let mut depth = self.open.depth;
         while depth > 0 {
             let level = levels[depth - 1];
             if let Some(thrown) = level.mark.caught() {
@@ -161,107 +258,63 @@ impl<'a> Cursor<'a> {
         }
         UnderWay::GoingOn
     }
+}
 
-    /// Leaves the next statement out, if one is left.
-    fn skip(&mut self)
-        ensures { self.new ≡ behind self.old }
-    {
-        if self.depth == 0 {
-            return;
-        }
-        let levels = &self.levels[..];
-        let level = levels[self.depth - 1];
-        if !level.left.is_empty() {
-            self.replace(Level {
-                left: &level.left[1..],
-                mark: level.mark,
-            });
-        }
+/// Where a body goes on behind a list that is over, or that is left.
+#[derive(Clone, Copy)]
+pub(crate) enum Behind<'a> {
+    /// With this list, in the place of the other one.
+    List(Level<'a>),
+    /// With what follows, where this is under way.
+    Out(UnderWay),
+}
+
+/// Where a body goes on behind a list with this mark, if this is under way there.
+fn behind_list<'a>(mark: Mark<'a>, way: UnderWay) -> Behind<'a>
+    ensures { ComesBehind mark.entry way result }
+{
+    match mark {
+        Mark::Plain => Behind::Out(way),
+        Mark::Trying(handlers) => Behind::List(behind_try(handlers, way)),
+        Mark::Caught(_, finally) => Behind::List(leaving_by(finally, way)),
+        Mark::Leaving(before) => Behind::Out(match way {
+            UnderWay::GoingOn => before,
+            _ => way,
+        }),
     }
+}
 
-    /// Opens a list inside the innermost one.
-    fn open(&mut self, left: &'a [Stmt], mark: Mark<'a>)
-        requires { self.old.depth < LEVELS }
-    {
-        let depth = self.depth;
-        let levels = &mut self.levels[..];
-        levels[depth] = Level { left, mark };
-        self.depth = depth + 1;
-    }
-
-    /// Puts a list in the place of the innermost one.
-    fn replace(&mut self, level: Level<'a>)
-        requires { 0 < self.old.depth }
-    {
-        let depth = self.depth;
-        let levels = &mut self.levels[..];
-        levels[depth - 1] = level;
-    }
-
-    /// Goes to where the next statement stands if this is under way before what is left: enters each `try`,
-    /// and leaves each list that is over. Returns what is under way where nothing is left.
-    fn come(&mut self, way: UnderWay) -> UnderWay
-        ensures { rest_at self.old way ≡ record { left = self.new; way = result } }
-    {
-        let mut way = way;
-        while self.depth > 0 {
-            let levels = &self.levels[..];
-            let level = levels[self.depth - 1];
-            match level.left.first() {
-                Some(Stmt::Try {
-                    clauses,
-                    list,
-                    canceled,
-                    caught,
-                    finally,
-                }) if way == UnderWay::GoingOn => {
-                    self.skip();
-                    self.open(
-                        list.list(),
-                        Mark::Trying(Handlers {
-                            clauses: *clauses,
-                            canceled,
-                            caught,
-                            finally,
-                        }),
-                    );
-                }
-                Some(_) if way == UnderWay::GoingOn => return way,
-                _ => way = self.leave(level.mark, way),
-            }
+/// Where a body goes on behind the list of a `try`: with the handler that catches what is under way, or with
+/// the `finally`.
+fn behind_try<'a>(handlers: Handlers<'a>, way: UnderWay) -> Level<'a>
+    ensures { ComesBehind (Mark.Trying handlers.entry) way (Behind.List result) }
+{
+    match way {
+        UnderWay::Canceling(_) if handlers.clauses.catch_canceled => {
+            handling(handlers.canceled, handlers.finally, way)
         }
-        way
-    }
-
-    /// Leaves the innermost list, where this is under way, by what comes behind it. Returns what is under
-    /// way there.
-    fn leave(&mut self, mark: Mark<'a>, way: UnderWay) -> UnderWay
-        requires { 0 < self.old.depth }
-    {
-        let next = match mark {
-            Mark::Plain => None,
-            Mark::Trying(handlers) => Some(behind_try(handlers, way)),
-            Mark::Caught(_, finally) => Some(leaving_by(finally, way)),
-            Mark::Leaving(after) => {
-                self.depth -= 1;
-                return if way == UnderWay::GoingOn { after } else { way };
-            }
-        };
-        match next {
-            Some(level) => {
-                self.replace(level);
-                UnderWay::GoingOn
-            }
-            None => {
-                self.depth -= 1;
-                way
-            }
+        UnderWay::Canceling(_) | UnderWay::Throwing(_) if handlers.clauses.catch => {
+            handling(handlers.caught, handlers.finally, way)
         }
+        _ => leaving_by(handlers.finally, way),
+    }
+}
+
+/// The list of a `catch` that caught this, in a `try` with this `finally`.
+fn handling<'a>(handler: &'a Body, finally: &'a Body, thrown: UnderWay) -> Level<'a>
+    ensures list { handler.now ≡ statements_of result.left.now }
+    ensures mark { result.mark ≡ Mark.Caught thrown finally.entry }
+{
+    Level {
+        left: handler.list(),
+        mark: Mark::Caught(thrown, finally),
     }
 }
 
 /// The list of a `finally` that goes on with this.
-fn leaving_by(finally: &Body, way: UnderWay) -> Level<'_>
+fn leaving_by<'a>(finally: &'a Body, way: UnderWay) -> Level<'a>
+    ensures list { finally.now ≡ statements_of result.left.now }
+    ensures mark { result.mark ≡ Mark.Leaving way }
 {
     Level {
         left: finally.list(),
@@ -269,26 +322,28 @@ fn leaving_by(finally: &Body, way: UnderWay) -> Level<'_>
     }
 }
 
-/// Where a body goes on behind the list of a `try`: with the handler that catches what is under way, or with
-/// the `finally`.
-fn behind_try(handlers: Handlers<'_>, way: UnderWay) -> Level<'_>
+/// The list of a `try`, with its clauses; none where the statement is another one.
+fn tried<'a>(statement: &'a Stmt) -> Option<Level<'a>>
+    ensures { MatchOption result (comes_next (statement_of statement.now) ≡ true)
+        (λ l. IsEntered (statement_of statement.now) l) }
 {
-    let Clauses {
-        catch_canceled,
-        catch,
-        finally: _,
-    } = handlers.clauses;
-    let handler = match way {
-        UnderWay::Canceling(_) if catch_canceled => Some(handlers.canceled),
-        UnderWay::Canceling(_) | UnderWay::Throwing(_) if catch => Some(handlers.caught),
+    match statement {
+        Stmt::Try {
+            clauses,
+            list,
+            canceled,
+            caught,
+            finally,
+        } => Some(Level {
+            left: list.list(),
+            mark: Mark::Trying(Handlers {
+                clauses: *clauses,
+                canceled,
+                caught,
+                finally,
+            }),
+        }),
         _ => None,
-    };
-    match handler {
-        Some(handler) => Level {
-            left: handler.list(),
-            mark: Mark::Caught(way, handlers.finally),
-        },
-        None => leaving_by(handlers.finally, way),
     }
 }
 

@@ -1,12 +1,7 @@
-use Rattle.std.proofs.Common.{◌<◌, ◌≤◌, length, ◌∙◌, arith}
-use Rattle.tpl_model.proofs.Levels.{settled_first, settled_long}
+use Rattle.std.proofs.Common.{sym, ◌∙◌}
+use Rattle.tpl_model.proofs.Levels.{none_left}
 use Rattle.tpl_model.proofs.cursor.Cursor.first.Goals as goal
 
-pub returns : goal.returns
-returns c =
-    let some : 0 < c.settled-depth.result = omega arith in
-    let fits : c.settled-depth.result ≤ length c.self.inside.levels = omega (arith, c.self.invariant.0) in
-    settled_first c.self.inside.levels c.settled-depth.result c.index-levels-depth.result c.index-list-0.result c.args.self.now some fits c.index-levels-depth.is
-    (c.settled-depth.ensures.same ∙ c.self.view_is)
-    (settled_long c.self.inside.levels c.settled-depth.result c.index-levels-depth.result some fits c.index-levels-depth.is c.settled-depth.ensures.some)
-    c.index-list-0.is
+pub returns-in-None : goal.returns-in-None
+returns-in-None c =
+    none_left c.self.inside.open.levels c.self.inside.open.depth c.args.self.now c.self.invariant.fits (sym c.innermost.ensures ∙ c.in-None.is) c.self.view_is
