@@ -147,7 +147,8 @@ fn certificate_for<W: Watch>(
     Ok(Certificate::new(trees))
 }
 
-/// A tree for one claim.
+/// A tree for one claim. None is sought where no tree is accepted: in a graph whose bodies await or catch, or whose jobs may
+/// be canceled.
 fn tree_for<W: Watch>(
     alloc: Global,
     graph: &Graph,
@@ -167,6 +168,10 @@ fn tree_for<W: Watch>(
     ensures { IfOk result (λ found. IfSome found
         (IsFoundFor made.now.rules graph.now.graph claim.now form depth)) }
 {
+    if !graph.is_early() {
+        budget.give_up();
+        return Ok(None);
+    }
     let rules = made.rules;
     let assumed = assumed_for(graph, claim, rules);
     let cone = Cone::of(graph, claim.body(), &assumed, rules, &made.splits);
