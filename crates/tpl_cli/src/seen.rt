@@ -24,7 +24,7 @@ impl Seen {
 
     /// The document is of this version.
     pub(crate) fn read(&self, version: Version) {
-        if !version.is_third() {
+        if !version.since_third() {
             self.is_older.store(true, Ordering::Release);
         }
     }

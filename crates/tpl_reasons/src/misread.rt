@@ -1,8 +1,10 @@
 //! Why bytes spell no document, in words: the place, the wrong word, what may stand there.
 
 mod ask;
+mod bodies;
 mod bytes;
 mod form;
+mod gaps;
 mod graph;
 mod misfit;
 mod others;

@@ -4,7 +4,6 @@ use crate::misread::form::Form;
 use crate::misread::walk::{Found, Teller};
 use json::Value;
 use tpl_json::{bool_of, find, list_of, text_in, text_of};
-use tpl_model::LONGEST_EARLY_NAME;
 use tpl_reader::Version;
 
 /// What is looked for.
@@ -38,15 +37,20 @@ pub(crate) enum Ask<'v, 't> {
     ContinuationOption,
     /// A list of more elements than it may have.
     LongList,
+    /// A statement that awaits: only an async body has one.
+    Awaiting,
 }
 
-fn is_name(name: &str) -> bool {
+/// The most elements of a list that are compared with each other.
+const MOST_COMPARED: usize = 64;
+
+fn is_name(version: Version, name: &str) -> bool {
     let bytes = name.as_bytes();
     let digit_first = matches!(bytes.first(), None | Some(b'0'..=b'9'));
     let plain = bytes
         .iter()
         .all(|byte| byte.is_ascii_alphanumeric() || *byte == b'_');
-    !digit_first && plain && bytes.len() <= LONGEST_EARLY_NAME
+    !digit_first && plain && bytes.len() <= version.scale().longest_name()
 }
 
 /// The member's text; empty where there is none.
@@ -107,12 +111,12 @@ pub(crate) fn kind_of<'v, 't>(document: &'v Value<'t>, name: &str) -> &'v str {
 
 /// The first member that an object of the form may not have.
 pub(crate) fn stranger<'v>(
-    third: bool,
+    version: Version,
     form: Form,
     members: &'v [(&str, Value<'_>)],
 ) -> Option<&'v str> {
     for member in members {
-        if !form.names(third).contains(&member.0) {
+        if !form.names(version).contains(&member.0) {
             return Some(member.0);
         }
     }
@@ -120,24 +124,54 @@ pub(crate) fn stranger<'v>(
 }
 
 /// Whether it has the members that an object of the form has to have.
-fn has_needed(third: bool, form: Form, value: &Value<'_>) -> bool {
-    let mut needed = form.names(third).iter().take(form.needed());
+fn has_needed(version: Version, form: Form, value: &Value<'_>) -> bool {
+    let mut needed = form.names(version).iter().take(form.needed());
     needed.all(|name| find(value, name).is_some())
 }
 
+/// Whether a `try` has a clause.
+fn has_clause(value: &Value<'_>) -> bool {
+    ["catch_canceled", "catch", "finally"]
+        .iter()
+        .any(|name| find(value, name).is_some())
+}
+
 /// Whether it is an object with all members that it must have, and none that it may not have.
-fn has_members(third: bool, form: Form, value: &Value<'_>) -> bool {
+fn has_members(version: Version, form: Form, value: &Value<'_>) -> bool {
     match value {
         Value::Object(members) => {
-            stranger(third, form, members.as_slice()).is_none() && has_needed(third, form, value)
+            stranger(version, form, members.as_slice()).is_none()
+                && has_needed(version, form, value)
+                && (!form.is(Form::Try) || has_clause(value))
         }
         _ => false,
     }
 }
 
-fn is_long(form: Form, value: &Value<'_>) -> bool {
-    match (form.most(), list_of(value)) {
+fn is_long(version: Version, form: Form, value: &Value<'_>) -> bool {
+    match (form.most(version), list_of(value)) {
         (Some(most), Ok(list)) => list.len() > most,
+        _ => false,
+    }
+}
+
+/// Whether no text stands twice in the list. One of more than `MOST_COMPARED` elements isn't looked through, and counts as if
+/// one did.
+fn are_different(list: &[Value<'_>]) -> bool {
+    if list.len() > MOST_COMPARED {
+        return false;
+    }
+    for (index, value) in list.iter().enumerate() {
+        if list.iter().take(index).any(|other| is_same_text(value, other)) {
+            return false;
+        }
+    }
+    true
+}
+
+fn is_same_text(one: &Value<'_>, other: &Value<'_>) -> bool {
+    match (one, other) {
+        (Value::String(one), Value::String(other)) => one == other,
         _ => false,
     }
 }
@@ -148,21 +182,22 @@ fn has_length(form: Form, value: &Value<'_>) -> bool {
         (_, Err(_)) => false,
         (Form::AfterPair | Form::Pair, Ok(list)) => list.len() == 2,
         (Form::SomeFinals, Ok(list)) => !list.is_empty(),
+        (Form::Awaited | Form::AwaitedAny, Ok(list)) => !list.is_empty() && are_different(list),
         _ => true,
     }
 }
 
 /// Whether it is a text, and one of the form's words, where it has words.
-fn has_word(form: Form, value: &Value<'_>) -> bool {
+fn has_word(version: Version, form: Form, value: &Value<'_>) -> bool {
+    let words = form.words(version);
     match text_of(value) {
-        Ok(text) => form.words().is_empty() || form.words().contains(&text),
+        Ok(text) => words.is_empty() || words.contains(&text),
         Err(_) => false,
     }
 }
 
 /// Whether the form takes the value, as far as the table of forms knows: not where only the reader knows it.
 fn takes(version: Version, form: Form, value: &Value<'_>) -> bool {
-    let third = version.is_third();
     match form {
         Form::Anything => true,
         Form::Version | Form::Truths | Form::Ends | Form::Times | Form::Time | Form::ClaimName => {
@@ -170,10 +205,10 @@ fn takes(version: Version, form: Form, value: &Value<'_>) -> bool {
         }
         Form::LinkedToken if !version.has_links() => false,
         Form::Truth => bool_of(value).is_ok(),
-        _ if !form.choices(third).is_empty() => false,
+        _ if !form.choices(version).is_empty() => false,
         _ if form.is_list() => has_length(form, value),
-        _ if form.is_object() => has_members(third, form, value),
-        _ => has_word(form, value),
+        _ if form.is_object() => has_members(version, form, value),
+        _ => has_word(version, form, value),
     }
 }
 
@@ -202,11 +237,12 @@ pub(crate) fn is_unknown(document: &Value<'_>, list: &str, text: &str) -> bool {
     !list.is_empty() && place(document, list, text) == list_in(document, list).len()
 }
 
-fn is_asked_of_text(ask: Ask<'_, '_>, document: &Value<'_>, form: Form, text: &str) -> bool {
+fn is_asked_of_text(teller: Teller<'_, '_>, ask: Ask<'_, '_>, form: Form, text: &str) -> bool {
     let list = form.declared_in();
+    let document = teller.document;
     match ask {
         Ask::Text(wanted, name) => form.is(wanted) && text == name,
-        Ask::BadName => form.declares() && !is_name(text),
+        Ask::BadName => form.declares() && !is_name(teller.version, text),
         Ask::Unknown => is_unknown(document, list, text),
         Ask::Later(number) => {
             matches!(form, Form::Argument | Form::Source) && place(document, list, text) >= number
@@ -214,7 +250,8 @@ fn is_asked_of_text(ask: Ask<'_, '_>, document: &Value<'_>, form: Form, text: &s
         Ask::Child => matches!(form, Form::Argument) && kind_of(document, text) == "child",
         Ask::NoChild => matches!(form, Form::Child) && kind_of(document, text) != "child",
         Ask::NoBody => {
-            matches!(form, Form::Begun) && matches!(kind_of(document, text), "all" | "any")
+            matches!(form, Form::Begun | Form::GivenTask)
+                && matches!(kind_of(document, text), "all" | "any")
         }
         Ask::Subject => matches!(form, Form::Word) && text == "observe",
         Ask::ContinuationOption => matches!(form, Form::Option) && is_for_continuations(text),
@@ -228,12 +265,13 @@ pub(crate) fn is_asked(teller: Teller<'_, '_>, ask: Ask<'_, '_>, found: Found<'_
     match ask {
         Ask::Misfit(wanted) => look_alike(value, wanted) && !takes(teller.version, form, value),
         Ask::Form(wanted) => form.is(wanted),
-        Ask::LongList => is_long(form, value),
+        Ask::LongList => is_long(teller.version, form, value),
+        Ask::Awaiting => matches!(form, Form::Await | Form::AwaitAny | Form::AwaitWon),
         Ask::Job(site) => matches!(form, Form::Work) && text_or_empty(value, "work") == site,
         Ask::Subject if matches!(form, Form::When) => true,
         Ask::Statement => form.is_statement(),
         _ => match text_of(value) {
-            Ok(text) => is_asked_of_text(ask, teller.document, form, text),
+            Ok(text) => is_asked_of_text(teller, ask, form, text),
             Err(_) => false,
         },
     }

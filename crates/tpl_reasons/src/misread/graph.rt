@@ -9,7 +9,7 @@ use json::Value;
 use std::alloc::AllocError;
 use tpl_graph::{GraphFault, OptionsFault, Why};
 use tpl_json::{list_of, member_in, text_of};
-use tpl_model::{LONGEST_EARLY_NAME, MOST_LEVELS, MOST_EARLY_SITES, MOST_STATEMENTS, MOST_TASKS};
+use tpl_model::{MOST_FINALLYS, MOST_LEVELS, MOST_STATEMENTS, MOST_TASKS};
 
 const OF_CHILD: &str =
     "is a child, and no task waits for a child; wait for the task that starts it";
@@ -19,6 +19,9 @@ const EXCLUDES_ALL: &str =
 
 const LONG_AND_SYNC: &str =
     "has LongRunning and ExecuteSynchronously, which exclude each other (.NET throws ArgumentOutOfRangeException); take one out";
+
+const NOT_ASYNC: &str =
+    "awaits, which only an async body does; write \"async\": true at the task, or wait here";
 
 const NO_SUBJECT: &str =
     "reads how the antecedent ended, which only a continuation has (a task of kind \"then\")";
@@ -80,7 +83,10 @@ impl<'v, 't> Teller<'v, 't> {
         let Some(spot) = self.find(area, Ask::LongList, 0)? else {
             return Ok(None);
         };
-        match (list_of(spot.found.value), spot.found.form.most()) {
+        match (
+            list_of(spot.found.value),
+            spot.found.form.most(self.version),
+        ) {
             (Ok(list), Some(most)) => {
                 let count = list.len();
                 let said = format!(in self.alloc;
@@ -107,31 +113,37 @@ impl<'v, 't> Teller<'v, 't> {
 
     /// The line about too many jobs. Where there are few enough, the levels are too many.
     fn many_jobs_line(self, area: Area) -> Line {
+        let most = self.version.scale().most_sites();
         let said = format!(in self.alloc;
-            "is the {}th job of the graph, which has {MOST_EARLY_SITES} at most",
-            MOST_EARLY_SITES + 1
+            "is the {}th job of the graph, which has {most} at most",
+            most + 1
         )?;
-        match self.tell(
-            Area::Graph,
-            Ask::Form(Form::Work),
-            MOST_EARLY_SITES,
-            said.as_str(),
-        )? {
-            None => {
-                let path = self.path_of(area)?;
-                let said = format!(in self.alloc;
-                    "its body nests deeper than {MOST_LEVELS} levels; a body without branches has one"
-                )?;
-                self.line(area, path.as_str(), said.as_str())
-            }
+        match self.tell(Area::Graph, Ask::Form(Form::Work), most, said.as_str())? {
+            None => self.deep_line(area),
             found => Ok(found),
         }
+    }
+
+    /// The line about a body that nests too deep, or has too many `finally` lists in one another.
+    fn deep_line(self, area: Area) -> Line {
+        let path = self.path_of(area)?;
+        let said = if self.finallys(area)? > usize::from(MOST_FINALLYS) {
+            format!(in self.alloc;
+                "its body has more than {MOST_FINALLYS} lists of \"finally\" in one another"
+            )?
+        } else {
+            format!(in self.alloc;
+                "its body nests deeper than {MOST_LEVELS} levels; a body without branches has one"
+            )?
+        };
+        self.line(area, path.as_str(), said.as_str())
     }
 
     /// The line about a text that is no name.
     fn bad_name_line(self, area: Area) -> Line {
         let said = format!(in self.alloc;
-            "is not a name: a name (label, site) is 1 to {LONGEST_EARLY_NAME} ASCII letters, digits or _, and doesn't begin with a digit"
+            "is not a name: a name (label, site) is 1 to {} ASCII letters, digits or _, and doesn't begin with a digit",
+            self.version.scale().longest_name()
         )?;
         self.tell(area, Ask::BadName, 0, said.as_str())
     }
@@ -304,6 +316,9 @@ impl<'v, 't> Teller<'v, 't> {
             Why::Option(fault) => self.options_line(area, fault),
             Why::ObserveNothing => self.tell(area, Ask::Subject, 0, NO_SUBJECT),
             Why::LinkPlace => self.link_line(),
+            Why::NotAsync => self.tell(area, Ask::Awaiting, 0, NOT_ASYNC),
+            Why::BadPlace => self.bad_place_line(index),
+            Why::NotStarted => self.not_started_line(index),
             Why::Memory => Ok(None),
         }
     }

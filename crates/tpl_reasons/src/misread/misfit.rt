@@ -9,10 +9,20 @@ use std::alloc::AllocError;
 use tpl_cert::tree_shape;
 use tpl_json::{Miss, Shape, find};
 use tpl_parts::{claim_of, start_or_none, task_of};
-use tpl_reader::top_shape;
+use tpl_reader::{Version, top_shape};
 
-/// What is said of a member that only version 3 has.
-const BEFORE_THIRD: &str = " before version 3";
+/// What is said of what there is since this version.
+fn before(version: Version) -> &'static str {
+    match version {
+        Version::One | Version::Two => "",
+        Version::Three => " before version 3",
+        Version::Four => " before version 4",
+    }
+}
+
+/// What is said of a `try` without a clause.
+const NO_CLAUSE: &str =
+    "a try has one clause at least: \"catch_canceled\", \"catch\" or \"finally\"";
 
 /// A line, if there is a place that it speaks of.
 pub(crate) type Line = Result<Option<String>, AllocError>;
@@ -61,19 +71,21 @@ impl<'v, 't> Teller<'v, 't> {
 
     /// What is said of a member that an object may not have; empty where there is none.
     fn says_stranger(self, form: Form, object: &[(&str, Value<'_>)]) -> Result<String, AllocError> {
-        let Some(key) = stranger(self.third(), form, object) else {
+        let Some(key) = stranger(self.version, form, object) else {
             return Ok(String::new(self.alloc));
         };
-        let near = if form.names(true).contains(&key) {
-            String::from_str(self.alloc, BEFORE_THIRD)?
-        } else {
-            question(self.alloc, key, form.names(self.third()))?
+        let near = match form.since(key) {
+            Some(version) => String::from_str(self.alloc, before(version))?,
+            None if form.is(Form::AwaitAny) && Form::AwaitWon.since(key).is_some() => {
+                String::from_str(self.alloc, " without \"won\"")?
+            }
+            None => question(self.alloc, key, form.names(self.version))?,
         };
         let key = quoted(self.alloc, key)?;
-        let all = listed(self.alloc, form.names(self.third()))?;
+        let all = listed(self.alloc, form.names(self.version))?;
         format!(in self.alloc;
             "{key} is no member of {}{near}; its members are {all}",
-            form.noun(self.alloc, self.third())?
+            form.noun(self.alloc, self.version)?
         )
     }
 
@@ -86,13 +98,13 @@ impl<'v, 't> Teller<'v, 't> {
         let mut text = self.says_stranger(found.form, object)?;
         for name in found
             .form
-            .names(self.third())
+            .names(self.version)
             .iter()
             .take(found.form.needed())
         {
             if find(found.value, name).is_none() {
                 let and = if text.is_empty() { "" } else { "; " };
-                let noun = found.form.member(name).noun(self.alloc, self.third())?;
+                let noun = found.form.member(name).noun(self.alloc, self.version)?;
                 write!(text, "{and}the member \"{name}\" is missing: {noun}")?;
             }
         }
@@ -101,21 +113,19 @@ impl<'v, 't> Teller<'v, 't> {
 
     /// What is said of an object that has none of the members by which its form is known.
     fn says_no_key(self, form: Form, object: &[(&str, Value<'_>)]) -> Result<String, AllocError> {
-        let keys = form.choices(self.third()).iter().map(|choice| choice.key());
+        let keys = form.choices(self.version).iter().map(|choice| choice.key());
         let names: Vec<&str> = keys.collect(self.alloc)?;
         let first = match object.first() {
             Some(member) => member.0,
             None => "",
         };
-        let is_first = |choice: &Form| choice.key() == first;
-        let near = if form.choices(true).iter().any(is_first) {
-            String::from_str(self.alloc, BEFORE_THIRD)?
-        } else {
-            question(self.alloc, first, &names)?
+        let near = match form.choice_since(first) {
+            Some(version) => String::from_str(self.alloc, before(version))?,
+            None => question(self.alloc, first, &names)?,
         };
         let first = quoted(self.alloc, first)?;
         let all = listed(self.alloc, &names)?;
-        let (word, noun) = (form.word(), form.noun(self.alloc, self.third())?);
+        let (word, noun) = (form.word(), form.noun(self.alloc, self.version)?);
         format!(in self.alloc;
             "{first} doesn't make a {word}{near}; it must be {noun}, with one of {all}"
         )
@@ -124,16 +134,21 @@ impl<'v, 't> Teller<'v, 't> {
     /// What is said of a text that isn't one of the words.
     fn says_word(self, form: Form, text: &str) -> Result<String, AllocError> {
         let is_key = Form::Statement
-            .choices(self.third())
+            .choices(self.version)
             .iter()
             .any(|choice| choice.key() == text);
         if is_key && matches!(form, Form::Word) {
             return format!(in self.alloc; "\"{text}\" needs a value: {{\"{text}\": ..}}");
         }
-        let near = question(self.alloc, text, form.words())?;
+        let words = form.words(self.version);
+        let near = if form.words(Version::Four).contains(&text) {
+            String::from_str(self.alloc, before(Version::Four))?
+        } else {
+            question(self.alloc, text, words)?
+        };
         let text = quoted(self.alloc, text)?;
-        let all = listed(self.alloc, form.words())?;
-        let noun = form.noun(self.alloc, self.third())?;
+        let all = listed(self.alloc, words)?;
+        let noun = form.noun(self.alloc, self.version)?;
         format!(in self.alloc; "{text} is not {noun}{near}; it must be one of {all}")
     }
 
@@ -151,17 +166,21 @@ impl<'v, 't> Teller<'v, 't> {
                 let said = self.says_members(found, object.as_slice())?;
                 if said.is_empty() && form.is(Form::LinkedToken) {
                     self.says_link(found.value)
+                } else if said.is_empty() && form.is(Form::Try) {
+                    String::from_str(self.alloc, NO_CLAUSE)
                 } else {
                     Ok(said)
                 }
             }
-            Value::Object(object) if !form.choices(self.third()).is_empty() => {
+            Value::Object(object) if !form.choices(self.version).is_empty() => {
                 self.says_no_key(form, object.as_slice())
             }
-            Value::String(text) if !form.words().is_empty() => self.says_word(form, text),
+            Value::String(text) if !form.words(self.version).is_empty() => {
+                self.says_word(form, text)
+            }
             _ => {
                 let shown = shown(self.alloc, found.value)?;
-                let noun = form.noun(self.alloc, self.third())?;
+                let noun = form.noun(self.alloc, self.version)?;
                 format!(in self.alloc; "it must be {noun}, not {shown}")
             }
         }
@@ -178,7 +197,7 @@ impl<'v, 't> Teller<'v, 't> {
             }
             Area::Tree(_) => tree_shape(self.alloc, self.version.rules(), value)?,
             Area::Start => {
-                let _start = start_or_none(self.alloc, Some(value))?;
+                let _start = start_or_none(self.alloc, self.version, Some(value))?;
             }
             Area::Top | Area::Graph | Area::Token(_) => top_shape(self.alloc, value)?,
         }

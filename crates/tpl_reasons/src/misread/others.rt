@@ -35,6 +35,7 @@ impl<'v, 't> Teller<'v, 't> {
             Form::TokenName,
             Form::EndedTask,
             Form::SureSite,
+            Form::GivenTask,
             Form::GivenWord,
         ] {
             let line = self.given_line(area, form)?;
@@ -155,17 +156,13 @@ impl<'v, 't> Teller<'v, 't> {
         self.find(Area::Graph, Ask::Job(site), 0)
     }
 
-    /// The line about the first site at the start that no job has.
-    fn no_site_line(self) -> Line {
-        for (index, site) in self
-            .texts(Area::Start, Form::FailingSite)?
-            .iter()
-            .enumerate()
-        {
+    /// The line about the first site of this form at the start that no job has; the member has the sites.
+    fn no_site_line(self, form: Form, member: &str) -> Line {
+        for (index, site) in self.texts(Area::Start, form)?.iter().enumerate() {
             if self.job(site)?.is_none() {
                 let sites = self.texts(Area::Graph, Form::Site)?;
                 let said = self.says_unknown("sites", site, &sites)?;
-                let path = format!(in self.alloc; "start.fail[{index}]")?;
+                let path = format!(in self.alloc; "start.{member}[{index}]")?;
                 return self.line(Area::Start, path.as_str(), said.as_str());
             }
         }
@@ -186,7 +183,11 @@ impl<'v, 't> Teller<'v, 't> {
         if unknown.is_some() {
             return Ok(unknown);
         }
-        match self.no_site_line()? {
+        let failing = self.no_site_line(Form::FailingSite, "fail")?;
+        if failing.is_some() {
+            return Ok(failing);
+        }
+        match self.no_site_line(Form::CanceledSite, "cancel")? {
             None => self.ended_line(),
             found => Ok(found),
         }
@@ -232,12 +233,36 @@ impl<'v, 't> Teller<'v, 't> {
         Ok(None)
     }
 
+    /// The line about the first site whose job is to be canceled and may not, or is to fail too.
+    fn cancel_line(self) -> Line {
+        let fails = self.texts(Area::Start, Form::FailingSite)?;
+        for site in &self.texts(Area::Start, Form::CanceledSite)? {
+            let Some(job) = self.job(site)? else {
+                continue;
+            };
+            let said = if !matches!(bool_in(job.found.value, "may_cancel"), Ok(true)) {
+                format!(in self.alloc;
+                    "may not be canceled; write \"may_cancel\": true at {}, or take it out here",
+                    job.path
+                )?
+            } else if fails.contains(site) {
+                String::from_str(self.alloc, "is to fail too; take it out of one of the two")?
+            } else {
+                continue;
+            };
+            let ask = Ask::Text(Form::CanceledSite, site);
+            return self.tell(Area::Start, ask, 0, said.as_str());
+        }
+        Ok(None)
+    }
+
     /// The line about a fault of where a run starts.
     pub(crate) fn start_line(self, fault: StartFault) -> Line {
         match fault {
             StartFault::Unknown => self.unknown_at_start(),
             StartFault::Missing => self.missing_line(),
             StartFault::FailNot => self.fail_line(),
+            StartFault::CancelNot => self.cancel_line(),
         }
     }
 }

@@ -93,7 +93,7 @@ impl<'v, 't> Walk<'v, 't> {
 
     #[cycle(walk)]
     fn visit(&mut self, levels: u32, form: Form, value: &'v Value<'t>) -> Search<'v, 't> {
-        let form = form.chosen(self.teller.third(), value);
+        let form = form.chosen(self.teller.version, value);
         if self.ends_at(Found { form, value })? {
             return Ok(Some(Found { form, value }));
         }
@@ -122,7 +122,7 @@ impl<'v, 't> Walk<'v, 't> {
 
     #[cycle(walk)]
     fn visit_members(&mut self, levels: u32, form: Form, value: &'v Value<'t>) -> Search<'v, 't> {
-        for name in form.names(self.teller.third()) {
+        for name in form.names(self.teller.version) {
             if let Some(inner) = find(value, name) {
                 if let Some(found) = self.visit(levels, form.member(name), inner)? {
                     self.steps.push(Step::Member(name))?;
@@ -160,11 +160,6 @@ impl<'v, 't> Teller<'v, 't> {
             document,
             version: version_in(document),
         }
-    }
-
-    /// Whether the document is of version 3.
-    pub(crate) fn third(self) -> bool {
-        self.version.is_third()
     }
 
     /// The value where the part of the document stands, and its form.
