@@ -136,12 +136,14 @@ fn misplaced(alloc: Global, line: &[Place<'_, '_>]) -> Result<Option<&'static st
     match text_of(place.statement) {
         Ok("return") if handlers.any(|member| member == "finally") => Ok(Some(RETURN_PLACE)),
         Ok("rethrow") => {
-            let is_clause =
-                |member: &&'static str| matches!(*member, "catch" | "catch_canceled" | "finally");
-            match handlers.find(is_clause) {
-                Some("catch" | "catch_canceled") => Ok(None),
-                _ => Ok(Some(RETHROW_PLACE)),
+            for member in handlers {
+                match member {
+                    "catch" | "catch_canceled" => return Ok(None),
+                    "finally" => return Ok(Some(RETHROW_PLACE)),
+                    _ => {}
+                }
             }
+            Ok(Some(RETHROW_PLACE))
         }
         _ => {
             let names = names_in(alloc, place.statement, "await_any")?;
