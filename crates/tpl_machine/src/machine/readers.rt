@@ -17,7 +17,7 @@ use tpl_run::{Readers, Waits};
 
 impl<'g> Machine<'g> {
     /// What is kept of a task, if it is one.
-    fn some_row(&self, task: TaskId) -> Option<&Row<'g>>
+    pub(crate) fn some_row(&self, task: TaskId) -> Option<&Row<'g>>
         ensures some { IfSome result (λ x. x.now ≡ row_at self.now.graph self.now.inputs
             self.now.events task.0) }
         ensures none { IfNone result (ending self.now.graph self.now.inputs self.now.events task.0
