@@ -1,5 +1,5 @@
 -- What the table of sites says to the readers of a graph.
-use Rattle.std.proofs.Common.{◌≡◌, ℕ, zero, suc, ◌+◌, ◌<◌, true, ◌++◌, List, [], ◌∷◌, length, map, flat_map, get_or, nat_eq, sym, ap, ◌∙◌, arith, ◌⊎◌, inl, inr, ⊎_elim}
+use Rattle.std.proofs.Common.{◌≡◌, ℕ, zero, suc, ◌+◌, ◌<◌, true, false, ◌++◌, List, [], ◌∷◌, length, map, flat_map, get_or, nat_eq, sym, ap, ◌∙◌, arith, ◌⊎◌, inl, inr, ⊎_elim}
 use Rattle.std.specs.Prelude.{Some, None, slice_get, slice_index_or, ◌||◌}
 use Rattle.std.proofs.lemmas.Bool.{eq-eqb, or_right}
 use Rattle.tpl_model.specs.Members.{mem}

@@ -1,5 +1,5 @@
 -- Ids that are a graph's.
-use Rattle.std.proofs.Common.{◌≡◌, ℕ, ◌≤◌, Bool, true, None, List, length, ap, sym, ◌∙◌}
+use Rattle.std.proofs.Common.{◌≡◌, ℕ, ◌≤◌, Bool, true, false, None, List, length, ap, sym, ◌∙◌}
 use Rattle.std.proofs.lemmas.List.{get_or_past}
 use Rattle.tpl_model.proofs.Truths.{same_tests}
 use Rattle.tpl_model.specs.Members.{mem}
