@@ -1,65 +1,104 @@
 -- What is left of a body gets smaller.
-use Rattle.std.proofs.Common.{◌≡◌, ℕ, ◌+◌, ◌<◌, ◌≤◌, Bool, true, false, Option, List, sym, subst, arith, if◌then◌else◌, slice_index_or, nat_eq, inl, inr}
+use Rattle.std.proofs.Common.{◌≡◌, ℕ, ◌+◌, ◌<◌, ◌≤◌, ◌⊎◌, inl, inr, Bool, true, false, Option, List, refl, sym, ap, ◌∙◌, subst, arith, nat_eq}
 use Rattle.tpl_model.proofs.MemberLemmas.{same_self}
 use Rattle.tpl_model.proofs.Truths.{true_false}
-use Rattle.tpl_model.specs.Statements.{Check, Work, If, When, Statements, Nothing, ◌⨾◌, followed_by}
-use Rattle.tpl_model.specs.Graph.{TaskGraph, task, kind}
+use Rattle.tpl_model.proofs.Comes.{Comes, over, here, past, enters, cancels, catches, unwinds, handled, leaves, comes}
+use Rattle.tpl_model.specs.declared.ids.TaskId.{TaskId}
+use Rattle.tpl_model.specs.declared.outcome.UnderWay.{UnderWay}
+use Rattle.tpl_model.specs.declared.outcome.UnderWay.TheVariants.{GoingOn}
+use Rattle.tpl_model.specs.Statements.{Statement, If, When, AwaitAny, Try, Trying, Caught, Leaving, Statements, Nothing, ◌⨾◌, followed_by}
+use Rattle.tpl_model.specs.Rests.{Rest, rest_at}
+use Rattle.tpl_model.specs.Cursor.{comes_next}
+use Rattle.tpl_model.specs.Limits.{statement_count, count_one}
+use Rattle.tpl_model.specs.Graph.{TaskGraph, is_async}
 use Rattle.tpl_model.specs.declared.status.Actor.{Actor}
 use Rattle.tpl_model.specs.declared.status.Answer.{Answer}
-use Rattle.tpl_model.specs.declared.status.Answer.TheVariants.{Done, Failed}
 use Rattle.tpl_model.specs.declared.event.Act.{Act}
-use Rattle.tpl_model.specs.declared.event.Act.TheVariants.{Step, Worked}
+use Rattle.tpl_model.specs.declared.event.Act.TheVariants.{Step, Worked, Resume}
 use Rattle.tpl_model.specs.declared.event.Event.{Event}
-use Rattle.tpl_model.specs.Facts.{Rest, Ending, on, over, has_final, subject_in, stepped, worked, rest, requested, ending}
-use Rattle.tpl_model.specs.Paths.{cancellation}
-use Rattle.tpl_model.specs.Rules.{Allows, steps, works}
-use Rattle.tpl_model.specs.Limits.{statement_count}
-use Rattle.tpl_laws.proofs.Basics.{if_true}
+use Rattle.tpl_model.specs.Facts.{stepped, worked, resumed, rest, requested, ending}
+use Rattle.tpl_model.specs.Rules.{Allows, Run}
 use Rattle.tpl_laws.proofs.Kept.{id, after}
-use Rattle.tpl_laws.proofs.Execution.{Passes, passes_or_stays}
+use Rattle.tpl_laws.proofs.Moves.{Moves, passes, rethrows, chooses, Moved, IsListOf, IsNext, Stood, stood, Passes, goes_or_stays, moved_if, stepped_moves, worked_moves, resumed_moves}
 
 size_ahead : (a more : Statements) → statement_count (followed_by a more) ≡ statement_count a + statement_count more
 size_ahead Nothing more = omega arith
 size_ahead (s ⨾ a) more = let r = size_ahead a more in omega arith
 
-either_rest : (b : Bool) (x y : Rest) (n : ℕ) → statement_count x.left < n → statement_count y.left < n → statement_count (if b then x else y).left < n
-either_rest true x y n p q = p
-either_rest false x y n p q = q
+-- a body comes to what is no larger
+pub comes_smaller : {r : Rest} {b : Statements} {way : UnderWay} → Comes r b way → statement_count r.left ≤ statement_count b
+comes_smaller (over e) = let f = ap (λ (x : Rest). statement_count x.left) e in omega arith
+comes_smaller {b = s ⨾ more} (here n e) = let f = ap (λ (x : Rest). statement_count x.left) e in omega arith
+comes_smaller {b = s ⨾ more} (past m w h) = let i = comes_smaller h in omega arith
+comes_smaller {b = Try c list canceled caught finally ⨾ more} (enters h) =
+    let i = comes_smaller h in let j = size_ahead list (Trying c canceled caught finally ⨾ more) in omega arith
+comes_smaller {b = Trying c canceled caught finally ⨾ more} {way = way} (cancels e h) =
+    let i = comes_smaller h in let j = size_ahead canceled (Caught way finally ⨾ more) in omega arith
+comes_smaller {b = Trying c canceled caught finally ⨾ more} {way = way} (catches e f h) =
+    let i = comes_smaller h in let j = size_ahead caught (Caught way finally ⨾ more) in omega arith
+comes_smaller {b = Trying c canceled caught finally ⨾ more} {way = way} (unwinds e f h) =
+    let i = comes_smaller h in let j = size_ahead finally (Leaving way ⨾ more) in omega arith
+comes_smaller {b = Caught thrown finally ⨾ more} {way = way} (handled h) =
+    let i = comes_smaller h in let j = size_ahead finally (Leaving way ⨾ more) in omega arith
+comes_smaller {b = Leaving way ⨾ more} (leaves h) = let i = comes_smaller h in omega arith
 
-either_ahead : (b : Bool) (x y more : Statements) → statement_count (followed_by (if b then x else y) more) < 1 + statement_count x + statement_count y + statement_count more
-either_ahead true x y more = let r = size_ahead x more in omega arith
-either_ahead false x y more = let r = size_ahead y more in omega arith
+one_next : (s : Statement) → comes_next s ≡ true → 1 ≤ count_one s
+one_next (Trying c canceled caught finally) e = true_false (sym e)
+one_next (Caught thrown finally) e = true_false (sym e)
+one_next (Leaving way) e = true_false (sym e)
+one_next s e = omega arith
 
--- a step leaves less
-step_smaller : (g : TaskGraph) (v : List Bool) (t : ℕ) (left : Statements) (req : ℕ → Bool) (en : ℕ → Option Ending) → steps left ≡ true → statement_count (stepped g v t left req en).left < statement_count left
-step_smaller g v t Nothing req en s = true_false (sym s)
-step_smaller g v t (Check k ⨾ more) req en s = either_rest (req k) (over (cancellation (task g t).token k)) (on more) (1 + statement_count more) (omega arith) (omega arith)
-step_smaller g v t (Work site f ⨾ more) req en s = true_false (sym s)
-step_smaller g v t (If i a b ⨾ more) req en s = either_ahead (slice_index_or v i false) a b more
-step_smaller g v t (When f a b ⨾ more) req en s = either_ahead (has_final f en (subject_in g (kind g t) en)) a b more
-step_smaller g v t left req en s = omega arith
+list_smaller : (s : Statement) (list : Statements) → IsListOf s list → statement_count list < count_one s
+list_smaller (If i a b) list l = elim l [ inl e ↦ let f = ap statement_count e in omega arith | inr e ↦ let f = ap statement_count e in omega arith ]
+list_smaller (When x a b) list l = elim l [ inl e ↦ let f = ap statement_count e in omega arith | inr e ↦ let f = ap statement_count e in omega arith ]
+list_smaller (AwaitAny xs won a b) list l = elim l [ inl e ↦ let f = ap statement_count e in omega arith | inr e ↦ let f = ap statement_count e in omega arith ]
+list_smaller s list l = absurd l
 
--- a job leaves less
-work_smaller : (answer : Answer) (left : Statements) → works answer left ≡ true → statement_count (worked answer left).left < statement_count left
-work_smaller Done (Work s m ⨾ more) e = omega arith
-work_smaller Failed (Work s m ⨾ more) e = omega arith
-work_smaller answer left e = true_false (sym e)
+-- what goes on behind a statement is smaller
+moves_smaller : (s : Statement) (more to : Statements) (way : UnderWay) → Moves s more to way → comes_next s ≡ true → statement_count to < statement_count (s ⨾ more)
+moves_smaller s more to way (passes f) n = let i = one_next s n in omega arith
+moves_smaller s more to way (rethrows e) n = let i = one_next s n in omega arith
+moves_smaller s more to way (chooses list l) n = let i = list_smaller s list l in let j = size_ahead list more in omega arith
+
+moved_smaller : (r now : Rest) → Stood r → Moved r now → statement_count now.left < statement_count r.left
+moved_smaller r now st m =
+    elim st [
+      | inl z ↦ absurd (let f : Nothing ≡ m.next ⨾ m.more = sym z ∙ m.was in cc)
+      | inr z ↦ go z.0 z.1 z.2
+    ]
+  where
+    go : (s : Statement) (more : Statements) → IsNext r s more → statement_count now.left < statement_count r.left
+    go s more n =
+        let f : s ⨾ more ≡ m.next ⨾ m.more = sym n.left ∙ m.was in
+        let one : s ≡ m.next = cc in
+        let a = moves_smaller m.next m.more m.to m.way m.moves (subst (λ y. comes_next y ≡ true) one n.next) in
+        let b = comes_smaller (comes m.to m.way) in
+        let c = ap (λ (x : Rest). statement_count x.left) m.is in
+        let d = ap statement_count m.was in
+        omega arith
 
 -- the task whose statement an act passes has less left
-pub passed_smaller : (g : TaskGraph) (v : List Bool) (h : List Event) (a : Actor) (x : Act) (t : ℕ) → Passes x t → Allows g v h a x → statement_count (rest g v (after a x h) t).left < statement_count (rest g v h t).left
-passed_smaller g v h a x t (inl e) al = subst (λ z. Allows g v h a z → statement_count (rest g v (after a z h) t).left < statement_count (rest g v h t).left) (sym e) by_step al
+pub passed_smaller : (g : TaskGraph) (v : List Bool) (h : List Event) (a : Actor) (x : Act) (t : ℕ) → Run g v h → Passes x t → Allows g v h a x → statement_count (rest g v (after a x h) t).left < statement_count (rest g v h t).left
+passed_smaller g v h a x t run p al = moved_smaller (rest g v h t) (rest g v (after a x h) t) (stood g v h t run) (moved p al)
   where
-    by_step : Allows g v h a (Step (id t)) → statement_count (rest g v (after a (Step (id t)) h) t).left < statement_count (rest g v h t).left
-    by_step al = subst (λ z. statement_count z.left < statement_count (rest g v h t).left) (sym (if_true (nat_eq t t) (stepped g v t (rest g v h t).left (requested g v h) (ending g v h)) (rest g v h t) (same_self t))) (step_smaller g v t (rest g v h t).left (requested g v h) (ending g v h) al.2)
-passed_smaller g v h a x t (inr (w, e)) al = subst (λ z. Allows g v h a z → statement_count (rest g v (after a z h) t).left < statement_count (rest g v h t).left) (sym e) by_work al
-  where
-    by_work : Allows g v h a (Worked (id t) w) → statement_count (rest g v (after a (Worked (id t) w) h) t).left < statement_count (rest g v h t).left
-    by_work al = subst (λ z. statement_count z.left < statement_count (rest g v h t).left) (sym (if_true (nat_eq t t) (worked w (rest g v h t).left) (rest g v h t) (same_self t))) (work_smaller w (rest g v h t).left al.2)
+    Goes : Act → Type 0
+    Goes z = Allows g v h a z → Moved (rest g v h t) (rest g v (after a z h) t)
+    moved : Passes x t → Allows g v h a x → Moved (rest g v h t) (rest g v (after a x h) t)
+    moved p al = elim p [
+        | inl e ↦ subst Goes (sym e) (λ q. moved_if (rest g v h t) (stepped g v t (rest g v h t).left (requested g v h) (ending g v h)) (rest g v h t) (nat_eq t t) (same_self t)
+            (stepped_moves g v t (rest g v h t) (rest g v h t).left (requested g v h) (ending g v h) (stood g v h t run) refl q.2)) al
+        | inr r ↦ elim r [
+          | inl w ↦ subst Goes (sym w.1) (λ q. moved_if (rest g v h t) (worked (is_async g t) w.0 (rest g v h t).left) (rest g v h t) (nat_eq t t) (same_self t)
+              (worked_moves (is_async g t) w.0 (rest g v h t) (rest g v h t).left refl q.2)) al
+          | inr w ↦ subst Goes (sym w.1) (λ q. moved_if (rest g v h t) (resumed g w.0 (rest g v h t).left (rest g v h) (ending g v h)) (rest g v h t) (nat_eq t t) (same_self t)
+              (resumed_moves g w.0 (rest g v h t) (rest g v h t).left (rest g v h) (ending g v h) refl q.3)) al
+        ]
+      ]
 
 -- no act leaves more of a body
-pub rest_no_larger : (g : TaskGraph) (v : List Bool) (h : List Event) (a : Actor) (x : Act) (t : ℕ) → Allows g v h a x → statement_count (rest g v (after a x h) t).left ≤ statement_count (rest g v h t).left
-rest_no_larger g v h a x t al =
-    elim (passes_or_stays g v h a x t) [
-      | inl p ↦ let r = passed_smaller g v h a x t p al in omega arith
-      | inr same ↦ subst (λ z. statement_count z.left ≤ statement_count (rest g v h t).left) (sym same.0) (omega arith)
+pub rest_no_larger : (g : TaskGraph) (v : List Bool) (h : List Event) (a : Actor) (x : Act) (t : ℕ) → Run g v h → Allows g v h a x → statement_count (rest g v (after a x h) t).left ≤ statement_count (rest g v h t).left
+rest_no_larger g v h a x t run al =
+    elim (goes_or_stays g v h a x t run al) [
+      | inl p ↦ let r = moved_smaller (rest g v h t) (rest g v (after a x h) t) (stood g v h t run) p.1 in omega arith
+      | inr same ↦ subst (λ (z : Rest). statement_count z.left ≤ statement_count (rest g v h t).left) (sym same) (omega arith)
     ]

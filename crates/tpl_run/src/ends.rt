@@ -3,10 +3,8 @@
 ghost use Rattle.std.specs.Prelude.{◌≡◌, ℕ, ◌&&◌, not, is_some, map, option_map, true};
 ghost use Rattle.tpl_draft.specs.Prelude.{task_number};
 ghost use Rattle.tpl_laws.specs.RunTests as laws;
-ghost use Rattle.tpl_run.specs.Prelude.{place_of};
 ghost use Rattle.tpl_model.specs.Prelude.{all_ended, all_over, earlier, ending, first_ended, is_task, mem, some_ended, started};
 
-use crate::graphs::has_task;
 use crate::readers::Readers;
 use tpl_graph::Kind;
 use tpl_model::TaskId;
@@ -45,18 +43,6 @@ pub fn some_ended<R: Readers>(run: &R, tasks: &[TaskId]) -> bool
     false
 }
 
-/// The place at which a task ended, if it has.
-fn place_of<R: Readers>(run: &R, task: TaskId) -> Option<u32>
-    ensures { let j = R.journal run.now in result
-        ≡ place_of (ending j.graph j.inputs j.events task.0) }
-{
-    if has_task(run, task) {
-        run.row(task).place()
-    } else {
-        None
-    }
-}
-
 /// Of these tasks the one that ended first; of those that ended before the first event, the earliest in the list.
 pub fn first_ended<R: Readers>(run: &R, tasks: &[TaskId]) -> Option<TaskId>
     ensures { let j = R.journal run.now in option_map task_number result
@@ -75,16 +61,17 @@ fn earlier<R: Readers>(run: &R, task: TaskId, best: Option<TaskId>) -> Option<Ta
         option_map task_number result ≡ earlier e task.0 (e task.0)
         (option_map task_number best) }
 {
-    let Some(place) = place_of(run, task) else {
+    let Some(place) = run.place_of(task) else {
         return best;
     };
     let Some(other) = best else {
         return Some(task);
     };
-    match place_of(run, other) {
-        Some(before) if place <= before => Some(task),
-        None if place == 0 => Some(task),
-        _ => Some(other),
+    let before = run.place_of(other).unwrap_or(0);
+    if before < place {
+        Some(other)
+    } else {
+        Some(task)
     }
 }
 

@@ -13,6 +13,7 @@ pub trait Readers {
     ghost use Rattle.tpl_model.specs.Rules.{status, final, actor_in};
     ghost use Rattle.tpl_run.specs.Journal.{Journal, named, IsRunOfGraph};
     ghost use Rattle.tpl_run.specs.Rows.{row_at};
+    ghost use Rattle.tpl_run.specs.Reading.{place_of};
 
     ghost journal: { Self → Journal };
 
@@ -32,6 +33,11 @@ pub trait Readers {
     /// How a task ended.
     fn final_of(&self, task: TaskId) -> Option<Final>
         ensures { let j = journal self.now in result ≡ final j.graph j.inputs j.events task.0 };
+
+    /// The place at which a task ended, counted from 1; 0 before the first event.
+    fn place_of(&self, task: TaskId) -> Option<u32>
+        ensures { let j = journal self.now in result
+            ≡ place_of (ending j.graph j.inputs j.events task.0) };
 
     /// Who ended a task.
     fn ended_by(&self, task: TaskId) -> Option<Actor>

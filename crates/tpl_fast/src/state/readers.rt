@@ -98,6 +98,10 @@ impl<'g> Readers for State<'g> {
         self.machine.final_of(task)
     }
 
+    fn place_of(&self, task: TaskId) -> Option<u32> {
+        self.machine.place_of(task)
+    }
+
     fn ended_by(&self, task: TaskId) -> Option<Actor> {
         self.machine.ended_by(task)
     }

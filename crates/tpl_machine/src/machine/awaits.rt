@@ -1,6 +1,6 @@
 //! What is thrown behind tasks that a body awaited.
 
-ghost use Rattle.std.specs.Prelude.{◌≡◌, map, option_map};
+ghost use Rattle.std.specs.Prelude.{◌≡◌, ◌∷◌, [], ℕ, List, map, option_map, IfSome, IfNone};
 ghost use Rattle.tpl_draft.specs.Prelude.{task_number};
 ghost use Rattle.tpl_model.specs.Prelude.{awaited, awaited_of, carried_in, ending, first_so, is_task, rest, waited, waited_of};
 ghost use Rattle.tpl_machine.specs.Prelude.{asked_for, thrown_behind};
@@ -9,7 +9,6 @@ use crate::machine::Machine;
 use tpl_graph::Kind;
 use tpl_model::{Final, Label, Outcome, Stmt, TaskId, UnderWay};
 use tpl_run::Readers;
-use tpl_run::graphs::has_task;
 
 impl<'g> Machine<'g> {
     /// The first of the tasks that ended in this way.
@@ -25,17 +24,17 @@ impl<'g> Machine<'g> {
         None
     }
 
-    /// The task whose exception a Faulted task carries first, and what left its body.
-    fn first_carried(&self, task: TaskId) -> Option<(TaskId, UnderWay)> {
-        if !has_task(self, task) {
-            return None;
-        }
-        let atom = *self.row(task).carried().first()?;
-        if has_task(self, atom) {
-            Some((atom, self.row(atom).way()))
-        } else {
-            None
-        }
+    /// The task whose exception a task carries first, and what left its body.
+    fn first_carried(&self, task: TaskId) -> Option<(TaskId, UnderWay)>
+        ensures first { let j = self.now in IfSome result (λ r. (others : List ℕ)
+            × (carried_in (ending j.graph j.inputs j.events task.0) ≡ r.0.0 ∷ others)) }
+        ensures way { let j = self.now in IfSome result (λ r.
+            r.1 ≡ (rest j.graph j.inputs j.events r.0.0).way) }
+        ensures none { let j = self.now in IfNone result
+            (carried_in (ending j.graph j.inputs j.events task.0) ≡ []) }
+    {
+        let atom = *self.some_row(task)?.carried().first()?;
+        Some((atom, self.some_row(atom)?.way()))
     }
 
     /// What an await of a Faulted task throws: what left the body of the task whose exception it carries first. One that it

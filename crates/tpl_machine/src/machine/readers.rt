@@ -2,7 +2,7 @@
 
 ghost use Rattle.std.specs.Prelude.{◌≡◌, None, IfSome, IfNone, option_map};
 ghost use Rattle.tpl_draft.specs.Prelude.{task_number};
-ghost use Rattle.tpl_model.specs.Prelude.{ending, place_in, winner_of};
+ghost use Rattle.tpl_model.specs.Prelude.{ending, winner_of};
 ghost use Rattle.tpl_run.specs.Prelude.{row_at};
 
 use crate::machine::Machine;
@@ -17,7 +17,7 @@ use tpl_run::{Readers, Waits};
 
 impl<'g> Machine<'g> {
     /// What is kept of a task, if it is one.
-    fn some_row(&self, task: TaskId) -> Option<&Row<'g>>
+    pub(crate) fn some_row(&self, task: TaskId) -> Option<&Row<'g>>
         ensures some { IfSome result (λ x. x.now ≡ row_at self.now.graph self.now.inputs
             self.now.events task.0) }
         ensures none { IfNone result (ending self.now.graph self.now.inputs self.now.events task.0
@@ -34,19 +34,6 @@ impl<'g> Machine<'g> {
         match self.some_row(task) {
             None => None,
             Some(row) => row.winner(),
-        }
-    }
-
-    /// The place at which a task ended; 0 if it hasn't.
-    pub(crate) fn place_of(&self, task: TaskId) -> u32
-        ensures { result ≡ place_in (ending self.now.graph self.now.inputs self.now.events task.0) }
-    {
-        match self.some_row(task) {
-            None => 0,
-            Some(row) => match row.place() {
-                None => 0,
-                Some(place) => place,
-            },
         }
     }
 }
@@ -76,6 +63,13 @@ impl<'g> Readers for Machine<'g> {
         match self.some_row(task) {
             None => None,
             Some(row) => row.status(),
+        }
+    }
+
+    fn place_of(&self, task: TaskId) -> Option<u32> {
+        match self.some_row(task) {
+            None => None,
+            Some(row) => row.place(),
         }
     }
 

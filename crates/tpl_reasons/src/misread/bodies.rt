@@ -127,11 +127,6 @@ fn names_in<'v, 't>(
     Ok(names)
 }
 
-/// The list of this member is that of a clause that catches, or of a `finally`.
-fn is_clause(member: &str) -> bool {
-    matches!(member, "catch" | "catch_canceled" | "finally")
-}
-
 /// Why the innermost statement of the line may not stand there, if that is so.
 fn misplaced(alloc: Global, line: &[Place<'_, '_>]) -> Result<Option<&'static str>, AllocError> {
     let Some(place) = line.first() else {
@@ -141,11 +136,14 @@ fn misplaced(alloc: Global, line: &[Place<'_, '_>]) -> Result<Option<&'static st
     match text_of(place.statement) {
         Ok("return") if handlers.any(|member| member == "finally") => Ok(Some(RETURN_PLACE)),
         Ok("rethrow") => {
-            let clause = handlers.find(|member| is_clause(member));
-            match clause {
-                Some("catch" | "catch_canceled") => Ok(None),
-                _ => Ok(Some(RETHROW_PLACE)),
+            for member in handlers {
+                match member {
+                    "catch" | "catch_canceled" => return Ok(None),
+                    "finally" => return Ok(Some(RETHROW_PLACE)),
+                    _ => {}
+                }
             }
+            Ok(Some(RETHROW_PLACE))
         }
         _ => {
             let names = names_in(alloc, place.statement, "await_any")?;
@@ -448,8 +446,9 @@ fn gap_before<'v>(line: &[Place<'v, '_>], child: &str) -> Option<Gap<'v>> {
 /// The child is started in another list of a `try` that has one of the line in a clause.
 fn is_behind(line: &[Place<'_, '_>], child: &str) -> bool {
     for (index, place) in line.iter().enumerate() {
+        let is_clause = matches!(place.member, "catch" | "catch_canceled" | "finally");
         if let Some(outer) = line.get(index + 1) {
-            if is_clause(place.member) && starts_in(LEVELS, outer.statement, child) {
+            if is_clause && starts_in(LEVELS, outer.statement, child) {
                 return true;
             }
         }
