@@ -36,6 +36,9 @@ graph_word graph.SiteTwice = Some (codes "SiteTwice")
 graph_word (graph.Option fault) = Some (options_word fault)
 graph_word graph.ObserveNothing = Some (codes "ObserveNothing")
 graph_word graph.LinkPlace = Some (codes "LinkPlace")
+graph_word graph.NotAsync = Some (codes "NotAsync")
+graph_word graph.BadPlace = Some (codes "BadPlace")
+graph_word graph.NotStarted = Some (codes "NotStarted")
 graph_word graph.Memory = None
 
 -- the word for what is wrong with a claim
@@ -58,6 +61,7 @@ abbrev pub start_word : StartFault → List ℕ
 start_word start.Unknown = codes "Unknown"
 start_word start.Missing = codes "Missing"
 start_word start.FailNot = codes "FailNot"
+start_word start.CancelNot = codes "CancelNot"
 
 -- the line for a part of the wrong shape
 abbrev pub shape_text : Part → List ℕ

@@ -38,6 +38,9 @@ fn graph_word(why: Why) -> Option<&'static str>
         Why::Option(fault) => Some(options_word(fault)),
         Why::ObserveNothing => Some("ObserveNothing"),
         Why::LinkPlace => Some("LinkPlace"),
+        Why::NotAsync => Some("NotAsync"),
+        Why::BadPlace => Some("BadPlace"),
+        Why::NotStarted => Some("NotStarted"),
         Why::Memory => None,
     }
 }
@@ -73,6 +76,7 @@ fn start_word(fault: StartFault) -> &'static str
         StartFault::Unknown => "Unknown",
         StartFault::Missing => "Missing",
         StartFault::FailNot => "FailNot",
+        StartFault::CancelNot => "CancelNot",
     }
 }
 
