@@ -30,19 +30,29 @@ fn fails(document: &Document, site: SiteId) -> bool {
     }
 }
 
+/// The document says that the job of this site is canceled.
+fn cancels(document: &Document, site: SiteId) -> bool {
+    match &document.start {
+        Some(start) => start.cancel.iter().any(|there| there.0 == site.0),
+        None => false,
+    }
+}
+
 /// What the job of this site answers.
 fn answer_of(document: &Document, site: SiteId, answers: Answers) -> Answer
     ensures { may_answer answers result ≡ true }
 {
     if answers.may_fail && fails(document, site) {
         Answer::Failed
+    } else if answers.may_cancel && cancels(document, site) {
+        Answer::Canceled
     } else {
         Answer::Done
     }
 }
 
-/// Makes one box for each work statement, which answers `Failed` exactly where `start.fail` names it, and makes the run
-/// of the document with them, which is told so. Where there is no memory for the boxes, the line `out of memory` stands
+/// Makes one box for each work statement, which answers `Failed` exactly where `start.fail` names it and `Canceled` where
+/// `start.cancel` does, and makes the run of the document with them, which is told so. Where there is no memory for the boxes, the line `out of memory` stands
 /// alone.
 pub fn run_boxes<R: Threads + Wait + Sync, O: Write, F: Follow>(
     rt: &R,
