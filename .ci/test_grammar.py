@@ -1,6 +1,6 @@
 """The grammar of documents stands in one definition, which is proved of the program. This holds docs/FORMAT.md,
 schema/taskgraph.schema.json and the table by which reasons are found against it, member by member: which members each form
-has, which may be left out, which words stand for a form, and what version 3 adds.
+has, which may be left out, which words stand for a form, and what versions 3 and 4 add.
 """
 import json
 import re
@@ -50,18 +50,21 @@ def words(text):
     return set(re.findall(r'codes "(\$?\w+)"', text))
 
 
-def added(kind):
-    """What version 3 adds to the members of each form of the kind."""
+def added(kind, version="Four"):
+    """What a version has beside versions 1 and 2 among the members of each form of the kind, or of each task with a body."""
     if kind == "top":
-        return words(re.search(r"added Three = (.*)", read("crates/tpl_reader/specs/Top.antt"))[1])
+        return words(re.search(rf"added {version} = (.*)", read("crates/tpl_reader/specs/Top.antt"))[1])
     versions = read("crates/tpl_parts/specs/Versions.antt")
-    return words(re.search(rf"{kind}_remarks Three = (.*)", versions)[1])
+    said = re.search(rf"(?m)^{kind}_(?:remarks|words) (?:{version}|version) = (.*)", versions)[1]
+    return set() if version == "Three" and "since_fourth" in said else words(said)
 
 
-def left_out(kind):
-    """The members that may be left out, as the kind is defined."""
+def left_out(kind, members):
+    """The members that may be left out of a form with these, as the kind is defined."""
     text = read(f"crates/{KINDS[kind][0]}.antt")
-    return {name for pattern in LEFT_OUT for name in re.findall(pattern, text)}
+    found = {name for pattern in LEFT_OUT for name in re.findall(pattern, text)}
+    # the first list of a choice may be left out where it is asked who won, and nowhere else
+    return found if "won" in members else found - {"then"}
 
 
 def is_of(kind, members):
@@ -77,15 +80,15 @@ def is_of(kind, members):
 
 
 def forms(kind):
-    """The members of each form of the kind, in version 3, as it is defined."""
+    """The members of each form of the kind, in version 4, as it is defined."""
     found = set()
     for text in definitions(KINDS[kind][0]).values():
-        found |= {frozenset([name]) for name in re.findall(r'name_at \(codes "(\w+)"\)', text)}
+        found |= {frozenset([name]) for name in re.findall(r'(?:name|tasks)_at \(codes "(\w+)"\)', text)}
         said = re.findall(r'\w+_said version \(codes "(\w+)"\)', text)
         found |= {frozenset({"given", name} | added("claim")) for name in said}
         for names, more in re.findall(MEMBERS, text):
-            version_3 = set() if more == "[]" else added("top" if more.startswith("added") else more.split("_")[0])
-            found.add(frozenset(words(names) | version_3))
+            later = set() if more == "[]" else added("top" if more.startswith("added") else more.split("_")[0])
+            found.add(frozenset(words(names) | later))
     return {members for members in found if members and is_of(kind, members)}
 
 
@@ -121,7 +124,8 @@ def test_schema_has_the_members(kind):
 def test_schema_says_what_may_be_left_out(kind):
     for form in schema_of(kind):
         if "properties" in form:
-            assert set(form["properties"]) - set(form["required"]) == set(form["properties"]) & left_out(kind)
+            members = set(form["properties"])
+            assert members - set(form["required"]) == members & left_out(kind, members)
 
 
 @pytest.mark.parametrize("kind", KINDS)
@@ -134,10 +138,24 @@ def test_schema_says_what_version_3_adds():
     older = schema()["allOf"][1]["then"]["properties"]
     tasks, claims = (older[name]["items"]["properties"] for name in ("tasks", "claims"))
     given = claims["given"]["items"]["properties"]
-    assert {name for name, said in older.items() if said is False} == added("top")
-    assert {name for name, said in tasks.items() if said is False} == added("task")
-    assert {name for name, said in claims.items() if said is False} == added("claim") | third_claims()
+    assert {name for name, said in older.items() if said is False} == added("top", "Three")
+    assert {name for name, said in tasks.items() if said is False} == added("task", "Three")
+    assert {name for name, said in claims.items() if said is False} == added("claim", "Three") | third_claims()
     assert {name for name, said in given.items() if said is False} == third_given()
+
+
+def test_schema_says_what_version_4_adds():
+    whole = schema()
+    older = whole["allOf"][2]["then"]["properties"]
+    tasks, claims = (older[name]["items"]["properties"] for name in ("tasks", "claims"))
+    assert added("top") == added("top", "Three") and added("claim") == added("claim", "Three")
+    assert {name for name, said in tasks.items() if said is False} == added("body") - added("body", "Three")
+    assert {name for name, said in claims["given"]["items"]["properties"].items() if said is False} == fourth_given()
+    assert {name for name, said in older["start"]["properties"].items() if said is False} == added("start")
+    statements = whole["$defs"]["older_statement"]
+    assert tasks["body"] == {"items": {"$ref": "#/$defs/older_statement"}}
+    assert {name for name, said in statements["properties"].items() if said is False} == fourth_statements() | added("job")
+    assert {statements["not"]["const"]} == fourth_words()
 
 
 def test_schema_says_what_version_3_adds_to_trees():
@@ -180,15 +198,32 @@ def third_rows():
 def third_claims():
     """The members by which the claims go that only version 3 has."""
     text = read("crates/tpl_parts/specs/Claims.antt")
-    return set(re.findall(r'is_third version then .* <\$> \w+_said version \(codes "(\w+)"\)', text))
+    return set(re.findall(r'since_third version then .* <\$> \w+_said version \(codes "(\w+)"\)', text))
 
 
 def third_given():
-    """The first member of each thing that may be given in version 3 only."""
+    """The first member of each thing that may be given since version 3."""
     defined = definitions(KINDS["given"][0])
-    text = defined["end_or_job"]
+    text = defined["task_or_job"]
     objects = {re.search(r'object_of \(codes "(\w+)"', defined[name])[1] for name in re.findall(r"(\w+_at) d\b", text)}
-    return objects | set(re.findall(r'name_at \(codes "(\w+)"\)', text))
+    return objects | set(re.findall(r'name_at \(codes "(\w+)"\)', text)) - fourth_given()
+
+
+def fourth_given():
+    """The first member of each thing that may be given since version 4."""
+    text = definitions(KINDS["given"][0])["task_or_job"]
+    return set(re.findall(r'since_fourth version && has_member \(codes "(\w+)"\)', text))
+
+
+def fourth_statements():
+    """The members by which the statements go that there are since version 4."""
+    return words(definitions(KINDS["statement"][0])["is_waiting"])
+
+
+def fourth_words():
+    """The statements of one word that there are since version 4."""
+    text = definitions(KINDS["statement"][0])["word_at"]
+    return set(re.findall(r'since_fourth version && bytes_eq word \(codes "(\w+)"\)', text))
 
 
 # ---- the page
@@ -211,7 +246,7 @@ def keys(text):
 
 
 def page_forms(kind):
-    """The members of each form of the kind, in version 3, as the page has them."""
+    """The members of each form of the kind, in version 4, as the page has them."""
     if kind in ("top", "start"):
         cells = rows(section(kind.capitalize() if kind == "start" else "The top"), "Member")
         return {frozenset(re.match(r"`(\$?\w+)`", row[0].strip("| "))[1] for row in cells)}
@@ -250,13 +285,22 @@ def test_page_has_the_words(kind):
     assert {word for cell in cells for word in re.findall(r'^`"(\w+)"`', cell)} == single_words(kind)
 
 
-def marked(cells):
-    """The first name of each row that is marked with version 3."""
-    return {re.search(r"\$?\w+", row[0])[0] for row in cells if "(version 3)" in row[0]}
+def marked(cells, version=3):
+    """The first name of each row that is marked with a version."""
+    return {re.search(r"\$?\w+", row[0])[0] for row in cells if f"(version {version})" in row[0]}
+
+
+def test_page_says_what_version_4_adds():
+    assert marked(rows(*TABLES["statement"]), 4) == fourth_statements() | fourth_words()
+    assert marked(rows(*TABLES["given"]), 4) == fourth_given()
+    assert marked(rows(section("Start"), "Member"), 4) == added("start")
+    kinds = {row[0]: row[1] for row in rows(section("Tasks"), "Kind")}
+    later = {name for said in kinds.values() for name in re.findall(r"`(\w+)` \([^)]*in version 4[^)]*\)", said)}
+    assert later == added("body") - added("body", "Three")
 
 
 def test_page_says_what_version_3_adds():
-    assert marked(rows(section("The top"), "Member")) == added("top")
+    assert marked(rows(section("The top"), "Member")) == added("top", "Three")
     assert marked(rows(section("Claims"), "Member")) == third_claims()
     assert marked(rows(*TABLES["given"])) == third_given() | single_words("given")
     trees = re.findall(r'`(?:\{"(\w+)":[^`]*\}|(\w+))` \(version 3\)', section("Trees"))
@@ -272,36 +316,49 @@ MORE_FORMS = {"Task", "Graph"}
 
 
 def table():
-    """Of each form in version 3, by its name: its members, those that it needs first; how many it needs; how many version 3
-    adds, the last ones."""
+    """Of each form in version 4, by its name: its members, those that it needs first; how many it needs; how many version 3
+    adds, and how many version 4, the last ones."""
     text = read(FORMS)
     lists = dict(re.findall(r"const (\w+): \[&str; \d+\] = (\[[^\]]*\]);", text))
     arms = text.partition("fn row")[2].partition("fn names")[0]
     found = {}
-    for name, needs, adds, listing in re.findall(r"Form::(\w+) => \((\d+), (\w+), &(\[[^\]]*\]|\w+)\)", arms):
+    pattern = r"Form::(\w+) => \((\d+), (\w+), (\w+), &(\[[^\]]*\]|\w+)\)"
+    for name, needs, third, fourth, listing in re.findall(pattern, arms):
         names = re.findall(r'"(\$?\w+)"', lists.get(listing, listing))
-        found[name] = names, int(needs), len(names) if adds == "ALL" else int(adds)
+        counts = [len(names) if adds == "ALL" else int(adds) for adds in (third, fourth)]
+        found[name] = names, int(needs), *counts
     assert len(found) == arms.count("Form::")
     return {name: row for name, row in found.items() if name not in MORE_FORMS}
 
 
 def added_names(name):
     """The members of this form that version 3 adds."""
-    names, _, adds = table()[name]
-    return names[len(names) - adds :]
+    names, _, third, fourth = table()[name]
+    return names[len(names) - third - fourth : len(names) - fourth]
 
 
 def test_reasons_have_the_members():
-    assert {frozenset(names) for names, _, _ in table().values()} == set().union(*(forms(kind) for kind in KINDS))
+    assert {frozenset(row[0]) for row in table().values()} == set().union(*(forms(kind) for kind in KINDS))
+
+
+def test_reasons_say_what_version_4_adds():
+    later = {name: row[0][len(row[0]) - row[3] :] for name, row in table().items() if row[3]}
+    whole = {name for name, names in later.items() if names == table()[name][0]}
+    given = {name for name in whole if name.startswith("Given")}
+    assert {later[name][0] for name in given} == fourth_given()
+    assert {later[name][0] for name in whole - given} == fourth_statements()
+    parts = {name: set(names) for name, names in later.items() if name not in whole}
+    tasks = dict.fromkeys(("Started", "Then"), added("body") - added("body", "Three"))
+    assert parts == {**tasks, "Work": added("job"), "Start": added("start")}
 
 
 def test_reasons_say_what_version_3_adds():
     assert set(added_names("Row")) == third_rows()
-    splits = {name: names for name, (names, _, _) in table().items() if name.startswith("Split")}
+    splits = {name: row[0] for name, row in table().items() if name.startswith("Split")}
     assert {names[0] for name, names in splits.items() if added_names(name) == names} == third_trees()
 
 
 def test_reasons_say_what_may_be_left_out():
     kinds = {members: kind for kind in KINDS for members in forms(kind)}
-    for name, (names, needs, _) in table().items():
-        assert set(names[needs:]) == set(names) & left_out(kinds[frozenset(names)]), name
+    for name, (names, needs, *_) in table().items():
+        assert set(names[needs:]) == set(names) & left_out(kinds[frozenset(names)], names), name

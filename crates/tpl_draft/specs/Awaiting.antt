@@ -1,5 +1,5 @@
 -- Whether a body awaits only tasks that it may await, by what its parents had surely started.
-use Rattle.std.specs.Prelude.{ℕ, zero, suc, ◌&&◌, ◌||◌, Bool, true, false, Option, Some, None, List, [], ◌∷◌, position, nat_lt, if◌then◌else◌}
+use Rattle.std.specs.Prelude.{ℕ, zero, suc, ◌&&◌, ◌||◌, Bool, true, false, Option, Some, None, position, nat_lt, if◌then◌else◌}
 use Rattle.std.specs.List.{list_all}
 use Rattle.tpl_model.specs.Members.{mem}
 use Rattle.tpl_model.specs.Statements.{Statement, If, When, Await, Wait, AwaitAny, Try, Statements, Nothing, ◌⨾◌, starts}

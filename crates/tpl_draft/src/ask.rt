@@ -77,10 +77,10 @@ pub fn is_bad_name(scale: Scale, name: &str) -> bool
 pub fn lacks(names: &Names, name: &Option<String>) -> bool
     ensures { result ≡ spec.is_missing names.now (option_map string_bytes name.now) }
 {
-    match name {
-        Some(name) => !names.has(name.as_str()),
-        None => false,
-    }
+    let Some(name) = name else {
+        return false;
+    };
+    !names.has(name.as_str())
 }
 
 /// Some wanted name isn't declared.

@@ -1,5 +1,5 @@
 -- The start of a run, with names, that a JSON value is, `None` where it is none.
-use Rattle.std.specs.Prelude.{◌≡◌, ◌&&◌, ℕ, List, [], ◌∷◌, ◌++◌, Option, Some, None, Bool, true, false, codes, is_some, if◌then◌else◌}
+use Rattle.std.specs.Prelude.{◌≡◌, ◌&&◌, ℕ, List, [], ◌∷◌, Option, Some, None, Bool, true, false, codes, is_some, if◌then◌else◌}
 use Rattle.std.specs.Borrow.{Bor}
 use Rattle.std.specs.Fn.{Shared, FnReturnsAt}
 use Rattle.tpl_json.specs.View.{Value, view}
@@ -38,7 +38,7 @@ truths_or_none (Some d) = if has_truths d then Some (Some d) else None
 -- {"inputs": truth values, "request": [token, ..], "fail": [site, ..]}, in version 4 also "cancel": [site, ..], each of which may be left out
 unfoldable pub start_at : Version → Data → Option NamedStart
 start_at version d = do
-  only ← only_if (has_only ((codes "inputs" ∷ codes "request" ∷ codes "fail" ∷ []) ++ start_words version) d)
+  only ← only_if (has_only (codes "inputs" ∷ codes "request" ∷ codes "fail" ∷ start_words version) d)
   inputs ← truths_or_none (get (codes "inputs") d)
   request ← texts_in (codes "request") d
   fail ← texts_in (codes "fail") d

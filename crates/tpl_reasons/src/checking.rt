@@ -69,8 +69,15 @@ fn rows_text(alloc: Global, document: &Document, claim: usize) -> Said {
     }
 }
 
+/// What is said of a graph of which no certificate is judged.
+const NOT_YET: &str =
+    "no certificate is judged yet of a graph whose bodies are async, wait or catch, or whose jobs may be canceled; `verify` and `refute` look for a run in which a claim fails\n";
+
 /// Why claims and trees don't fit each other.
 fn shape_text(alloc: Global, document: &Document, claim: usize) -> Said {
+    if !document.graph.is_early() {
+        return String::from_str(alloc, NOT_YET);
+    }
     let claims = document.claims.len();
     let trees = tree_count(document);
     let counts = count_text(alloc, claims, "claim")?;
