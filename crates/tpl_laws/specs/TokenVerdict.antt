@@ -2,7 +2,7 @@
 use Rattle.std.specs.Prelude.{◌≡◌, ℕ, suc, ◌+◌, ◌&&◌, ◌↔◌, Bool, true, false, Option, Some, None, Ok, Result, List, [], ◌∷◌, length, nat_eq, nat_lt}
 use Rattle.tpl_model.specs.declared.finals.Final.TheVariants.{RanToCompletion, Canceled, Faulted}
 use Rattle.tpl_model.specs.Members.{mem}
-use Rattle.tpl_model.specs.Graph.{TaskGraph, TaskKind, WhenAny, kind}
+use Rattle.tpl_model.specs.Graph.{TaskGraph, TaskKind, WhenAny, kind, is_early_graph}
 use Rattle.tpl_model.specs.declared.event.Event.{Event}
 use Rattle.tpl_model.specs.Rules.{Run}
 use Rattle.tpl_model.specs.Valid.{IsGraph}
@@ -85,5 +85,5 @@ TokenVerdictIsRight =
 -- where the verdict finds no fault, each claim holds in every run
 abbrev pub TokenVerdictIsSound : Type 0
 TokenVerdictIsSound =
-    (g : TaskGraph) (claims : List Claim) (trees : List Tree) → IsGraph g → token_verdict g claims trees ≡ Ok tt
+    (g : TaskGraph) (claims : List Claim) (trees : List Tree) → IsGraph g → is_early_graph g ≡ true → token_verdict g claims trees ≡ Ok tt
     → (v : List Bool) (h : List Event) → Run g v h → Each (λ claim. Holds g claim v h) claims
