@@ -180,7 +180,13 @@ impl<'v, 't> Teller<'v, 't> {
     fn places(self, task: usize) -> Result<Vec<Place<'v, 't>>, AllocError> {
         let mut places = Vec::new(self.alloc);
         if let Some(task) = list_in(self.document, "tasks").get(task) {
-            add_list(&mut places, LEVELS, list_of_member(task, "body"), "body", None)?;
+            add_list(
+                &mut places,
+                LEVELS,
+                list_of_member(task, "body"),
+                "body",
+                None,
+            )?;
         }
         Ok(places)
     }
@@ -229,7 +235,10 @@ impl<'v, 't> Teller<'v, 't> {
         let mut most = 0;
         for number in 0..places.len() {
             let line = line_of(self.alloc, &places, number)?;
-            let count = line.iter().filter(|place| place.member == "finally").count();
+            let count = line
+                .iter()
+                .filter(|place| place.member == "finally")
+                .count();
             most = most.max(count);
         }
         Ok(most)
