@@ -15,7 +15,7 @@ use Rattle.tpl_graph.specs.Roles.{AreTasks}
 
 -- past the last task there is no body
 pub no_body : (g : TaskGraph) (t : ℕ) → length g.tasks ≤ t → body g t ≡ Nothing
-no_body g t le = ap (λ z. z.body) (get_or_past g.tasks t (record { kind = Root; body = Nothing; token = None; options = 0 }) le)
+no_body g t le = ap (λ z. z.body) (get_or_past g.tasks t (record { kind = Root; body = Nothing; token = None; options = 0; is_async = false }) le)
 
 mutual
   starts_are_tasks : (g : TaskGraph) (b : Statements) (c : ℕ) → IdsOf g b → mem c (starts b) ≡ true → is_task g c

@@ -153,7 +153,7 @@ subjected (WhenAny args) b = yes (reads_nothing b)
 
 -- past the last task nothing is started
 pub starts_nothing : (g : TaskGraph) (p : ℕ) → length g.tasks ≤ p → starts (body g p) ≡ []
-starts_nothing g p le = ap (λ (z : Task). starts z.body) (beyond g.tasks p (record { kind = Root; body = Nothing; token = None; options = 0 }) le)
+starts_nothing g p le = ap (λ (z : Task). starts z.body) (beyond g.tasks p (record { kind = Root; body = Nothing; token = None; options = 0; is_async = false }) le)
 
 pub no_parent : (g : TaskGraph) (p t : ℕ) → length g.tasks ≤ p → IsParent g p t → ⊥
 no_parent g p t le m = let e : false ≡ true = subst (λ (z : List ℕ). mem t z ≡ true) (starts_nothing g p le) m in absurd (cc)

@@ -6,7 +6,7 @@ use Rattle.tpl_model.specs.declared.event.Act.TheVariants.{Begin, Step, Leave}
 use Rattle.tpl_model.specs.Statements.{Return, Throw, Work, If, Nothing, ◌⨾◌}
 use Rattle.tpl_model.specs.Graph.{TaskGraph, Task, Plain}
 use Rattle.tpl_model.specs.Valid.{bound}
-use Rattle.tpl_examples.specs.Words.{worker, outside, task, Deed, begin, step, done, failed, leave, request, by, thrown, work_failed, returns, throwing, root, in_three_ways, graph, with_tokens, with_inputs, ending_at}
+use Rattle.tpl_examples.specs.Words.{is_sure, may_fail, worker, outside, task, Deed, begin, step, done, failed, leave, request, by, thrown, work_failed, returns, throwing, root, in_three_ways, graph, with_tokens, with_inputs, ending_at}
 use Rattle.tpl_examples.specs.Stories.{Story, Plot, the_end, ◌⇒◌, ◌&◌, ◌⇛◌, may, may_not, may_none, could, is, ended, all_ended, ended_by, stands_before, threw, threw_nothing, carries, unobserved, complete, incomplete}
 
 -- a return ends the body: the statement behind it isn't passed
@@ -70,7 +70,7 @@ BodiesRunApart =
 
 -- two jobs, of which the second may fail
 abbrev pub jobs_graph : TaskGraph
-jobs_graph = graph (root (Work 0 false ⨾ Work 1 true ⨾ Nothing) ∷ [])
+jobs_graph = graph (root (Work 0 is_sure ⨾ Work 1 may_fail ⨾ Nothing) ∷ [])
 
 -- a job is answered and not stepped over, by its task's worker; it fails only where it may
 abbrev pub JobIsAnswered : Type 0
@@ -97,7 +97,7 @@ OnlyJobsAreAnswered = Story (graph (root returns ∷ [])) [] (begin 1 0 ⇒ may_
 -- n roots, each with a job that may fail: the jobs wait for each other
 abbrev pub jobs_from : ℕ → ℕ → List Task
 jobs_from site zero = []
-jobs_from site (suc n) = root (Work site true ⨾ Nothing) ∷ jobs_from (suc site) n
+jobs_from site (suc n) = root (Work site may_fail ⨾ Nothing) ∷ jobs_from (suc site) n
 
 -- two jobs run at the same time
 abbrev pub TwoJobsAtOnce : Type 0

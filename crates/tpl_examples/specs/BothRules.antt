@@ -13,7 +13,7 @@ use Rattle.tpl_model.specs.declared.ids.TaskId.{TaskId}
 use Rattle.tpl_model.specs.declared.claim.Property.{Property}
 use Rattle.tpl_model.specs.Certificate.{PlainRow}
 use Rattle.tpl_laws.specs.Verdict.{verdict}
-use Rattle.tpl_examples.specs.Words.{request, drop_outside, root, when_all, when_any, with_token, ran, canceled, faulted, ends_in, begins_after, is_observed, never_begins, exclude, must_run, given_quiet, given_end, given_success, returns}
+use Rattle.tpl_examples.specs.Words.{may_fail, request, drop_outside, root, when_all, when_any, with_token, ran, canceled, faulted, ends_in, begins_after, is_observed, never_begins, exclude, must_run, given_quiet, given_end, given_success, returns}
 use Rattle.tpl_examples.specs.Stories.{Story, the_end, ◌⇒◌, ◌&◌, ended}
 use Rattle.tpl_examples.specs.CertificateWords.{child_with, continuing, graph_with, nothing, ran_or_canceled, ran_or_faulted, any_end, runs, ends, not_run, one_claim_given, not_closed, leaf, throws, observes, stuck}
 
@@ -114,7 +114,7 @@ Running =
 
 -- a job that may fail, and a continuation where it does
 abbrev pub handled : TaskGraph
-handled = graph_with [] 0 (root (Work 7 true ⨾ Nothing) ∷ continuing 0 returns 0x50000 ∷ [])
+handled = graph_with [] 0 (root (Work 7 may_fail ⨾ Nothing) ∷ continuing 0 returns 0x50000 ∷ [])
 
 abbrev pub GivenEnds : Type 0
 GivenEnds =

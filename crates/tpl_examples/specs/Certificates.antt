@@ -9,7 +9,7 @@ use Rattle.tpl_model.specs.declared.claim.Given.{Given}
 use Rattle.tpl_model.specs.Claims.{Claim}
 use Rattle.tpl_model.specs.Certificate.{PlainRow, Tree, OnInput, OnEnd}
 use Rattle.tpl_laws.specs.Verdict.{verdict}
-use Rattle.tpl_examples.specs.Words.{root, when_all, when_any, with_token, with_options, ran, canceled, faulted, ends_in, begins_after, is_observed, exclude, given_input, given_quiet, returns}
+use Rattle.tpl_examples.specs.Words.{may_fail, root, when_all, when_any, with_token, with_options, ran, canceled, faulted, ends_in, begins_after, is_observed, exclude, given_input, given_quiet, returns}
 use Rattle.tpl_examples.specs.CertificateWords.{child_with, continuing, graph_with, nothing, ran_or_canceled, ran_or_faulted, any_end, runs, ends, not_run, one_claim, one_claim_given, not_closed, leaf, throws, observes, one_leaf}
 
 -- a root that returns; no claims about no tasks; a claim without a tree
@@ -56,7 +56,7 @@ QuietContinuation = verdict (three (Plain ∷ []) 0 0) (a_before_c (given_quiet 
 -- a job that may fail, X only where it does, Y only where it doesn't: they exclude each other, but one leaf doesn't
 -- show it
 abbrev pub one_of_two : TaskGraph
-one_of_two = graph_with [] 0 (root (Work 0 true ⨾ Nothing) ∷ continuing 0 returns 0x50000 ∷ continuing 0 returns 0x60000 ∷ [])
+one_of_two = graph_with [] 0 (root (Work 0 may_fail ⨾ Nothing) ∷ continuing 0 returns 0x50000 ∷ continuing 0 returns 0x60000 ∷ [])
 
 abbrev pub excludes : List Claim
 excludes = one_claim (exclude 1 2)
@@ -80,7 +80,7 @@ ThroughAny =
 
 -- a check of the own token, then a job that may fail: it may end in each way
 abbrev pub checks : TaskGraph
-checks = graph_with (Plain ∷ []) 0 (with_token 0 (root (Check 0 ⨾ Work 0 true ⨾ Nothing)) ∷ [])
+checks = graph_with (Plain ∷ []) 0 (with_token 0 (root (Check 0 ⨾ Work 0 may_fail ⨾ Nothing)) ∷ [])
 
 abbrev pub OwnCheck : Type 0
 OwnCheck =

@@ -6,7 +6,7 @@ use Rattle.tpl_model.specs.declared.event.Act.TheVariants.{Release, Begin}
 use Rattle.tpl_model.specs.Options.{prefer_fairness_bit, long_running_bit, attached_to_parent_bit, hide_scheduler_bit, lazy_cancellation_bit, asynchronously_bit, synchronously_bit, not_on}
 use Rattle.tpl_model.specs.Statements.{Start, Observe, Work, When, Nothing, ◌⨾◌}
 use Rattle.tpl_model.specs.Graph.{TaskGraph, Task, Plain}
-use Rattle.tpl_examples.specs.Words.{outside, task, Deed, release, begin, step, done, failed, leave, close, drop, request, by, drop_outside, ending_at, thrown, work_failed, returns, throwing, root, in_three_ways, child, detached_child, continues, when_all, with_token, with_options, only_on_canceled, only_on_faulted, only_on_ran_to_completion, graph, with_tokens, begins_after, exclude, claim}
+use Rattle.tpl_examples.specs.Words.{may_fail, outside, task, Deed, release, begin, step, done, failed, leave, close, drop, request, by, drop_outside, ending_at, thrown, work_failed, returns, throwing, root, in_three_ways, child, detached_child, continues, when_all, with_token, with_options, only_on_canceled, only_on_faulted, only_on_ran_to_completion, graph, with_tokens, begins_after, exclude, claim}
 use Rattle.tpl_examples.specs.Children.{parent_leaves}
 use Rattle.tpl_examples.specs.Stories.{Story, Plot, the_end, ◌⇒◌, ◌&◌, ◌⇛◌, through, may, may_not, may_none, could, is, ended, ended_by, threw, carries, observed, unobserved, reads, reads_none, bound_to_none, complete, incomplete, holds, fails}
 
@@ -66,7 +66,7 @@ EachWordAfterEachEnd =
 
 -- a job that may fail, and a continuation for each end
 abbrev pub handler_graph : TaskGraph
-handler_graph = graph (root (Work 0 true ⨾ Nothing) ∷ follows only_on_faulted ∷ follows only_on_ran_to_completion ∷ [])
+handler_graph = graph (root (Work 0 may_fail ⨾ Nothing) ∷ follows only_on_faulted ∷ follows only_on_ran_to_completion ∷ [])
 
 -- it fails, and its handler begins
 abbrev pub failure : List Deed

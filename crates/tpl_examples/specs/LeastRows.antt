@@ -16,7 +16,7 @@ use Rattle.tpl_laws.specs.Verdict.{Breaks}
 use Rattle.tpl_laws.specs.LeastRows.{least_rows}
 use Rattle.tpl_laws.specs.TokenTrees.{AcceptsWithTokens}
 use Rattle.tpl_laws.specs.TokenVerdict.{token_verdict}
-use Rattle.tpl_examples.specs.Words.{root, child, continues, when_all, with_token, with_options, graph, with_tokens, with_inputs, returns, only_on_faulted, only_on_ran_to_completion, ran, canceled, faulted, ends_in, begins_after, is_observed, exclude}
+use Rattle.tpl_examples.specs.Words.{may_fail, root, child, continues, when_all, with_token, with_options, graph, with_tokens, with_inputs, returns, only_on_faulted, only_on_ran_to_completion, ran, canceled, faulted, ends_in, begins_after, is_observed, exclude}
 use Rattle.tpl_examples.specs.CertificateWords.{bare_rows, nothing, ran_or_canceled, ran_or_faulted, runs, behind, ends, not_run, one_claim, throws, observes}
 use Rattle.tpl_examples.specs.TokenRules.{for_claim, fault, plainly, knowing, two_tokens}
 use Rattle.tpl_examples.specs.WinnerRules.{races, read_behind}
@@ -42,7 +42,7 @@ judged g says tree = token_verdict g (one_claim says) (tree ∷ [])
 -- Fetch, a job that may fail, Import where it doesn't, and Report where it does
 abbrev pub fetch : TaskGraph
 fetch =
-    graph (root (Work 7 true ⨾ Nothing) ∷ with_options only_on_ran_to_completion (continues 0 returns) ∷ with_options only_on_faulted (continues 0 returns) ∷ [])
+    graph (root (Work 7 may_fail ⨾ Nothing) ∷ with_options only_on_ran_to_completion (continues 0 returns) ∷ with_options only_on_faulted (continues 0 returns) ∷ [])
 
 abbrev pub not_both : Property TaskId
 not_both = exclude 1 2

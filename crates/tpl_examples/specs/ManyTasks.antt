@@ -4,7 +4,7 @@ use Rattle.tpl_model.specs.declared.finals.Final.TheVariants.{RanToCompletion, C
 use Rattle.tpl_model.specs.Statements.{Start, Observe, Work, Nothing, ◌⨾◌}
 use Rattle.tpl_model.specs.Graph.{TaskGraph, Task, Plain}
 use Rattle.tpl_model.specs.Valid.{IsGraph}
-use Rattle.tpl_examples.specs.Words.{Deed, release, begin, step, done, leave, close, drop, settle, request, returns, root, child, continues, when_all, with_token, graph, with_tokens}
+use Rattle.tpl_examples.specs.Words.{is_sure, Deed, release, begin, step, done, leave, close, drop, settle, request, returns, root, child, continues, when_all, with_token, graph, with_tokens}
 use Rattle.tpl_examples.specs.Stories.{Story, the_end, ◌⇒◌, ◌&◌, ◌⇛◌, through, ended, all_ended, complete, incomplete}
 
 -- two jobs and WhenAll of them with a continuation, and a parent with a child that has a job and a continuation; what is
@@ -12,12 +12,12 @@ use Rattle.tpl_examples.specs.Stories.{Story, the_end, ◌⇒◌, ◌&◌, ◌�
 abbrev pub seven_graph : (ℕ → Task → Task) → TaskGraph
 seven_graph continuing =
     graph
-    (root (Work 0 false ⨾ Nothing)
-    ∷ root (Work 1 false ⨾ Nothing)
+    (root (Work 0 is_sure ⨾ Nothing)
+    ∷ root (Work 1 is_sure ⨾ Nothing)
     ∷ when_all (0 ∷ 1 ∷ [])
     ∷ continuing 0 (continues 2 (Observe ⨾ returns))
     ∷ root (Start 5 ⨾ returns)
-    ∷ child (Work 2 false ⨾ Nothing)
+    ∷ child (Work 2 is_sure ⨾ Nothing)
     ∷ continuing 1 (continues 4 returns)
     ∷ [])
 

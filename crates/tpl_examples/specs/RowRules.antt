@@ -11,7 +11,7 @@ use Rattle.tpl_model.specs.declared.claim.Given.{Given}
 use Rattle.tpl_model.specs.Claims.{Claim}
 use Rattle.tpl_model.specs.Certificate.{PlainRow, Tree, OnInput, OnEnd}
 use Rattle.tpl_laws.specs.Verdict.{verdict}
-use Rattle.tpl_examples.specs.Words.{root, when_all, when_any, with_token, ran, canceled, faulted, ends_in, begins_after, never_begins, is_observed, exclude, given_input, given_quiet, returns}
+use Rattle.tpl_examples.specs.Words.{is_sure, may_fail, root, when_all, when_any, with_token, ran, canceled, faulted, ends_in, begins_after, never_begins, is_observed, exclude, given_input, given_quiet, returns}
 use Rattle.tpl_examples.specs.CertificateWords.{child_with, continuing, graph_with, nothing, ran_or_canceled, ran_or_faulted, any_end, runs, ends, behind, not_run, one_claim, one_claim_given, not_closed, leaf, throws, observes, stuck, one_leaf}
 
 -- a claim that each leaf proves, for certificates about the rules alone
@@ -76,9 +76,9 @@ abbrev pub BodyEnds : Type 0
 BodyEnds =
     (said (plain (root (Return ⨾ Throw 0 ⨾ Nothing) ∷ [])) (ends ran ∷ []) ≡ Ok tt)
     × (said (plain (root Nothing ∷ [])) (ends faulted ∷ []) ≡ Err (not_closed 1 1 0 K2))
-    × (said (plain (root (Work 0 false ⨾ Nothing) ∷ [])) (ends ran ∷ []) ≡ Ok tt)
-    × (said (plain (root (Work 0 true ⨾ Nothing) ∷ [])) (ends ran ∷ []) ≡ Err (not_closed 1 1 0 K2))
-    × (said (plain (root (Work 0 true ⨾ Nothing) ∷ [])) (ends faulted ∷ []) ≡ Err (not_closed 1 1 0 K2))
+    × (said (plain (root (Work 0 is_sure ⨾ Nothing) ∷ [])) (ends ran ∷ []) ≡ Ok tt)
+    × (said (plain (root (Work 0 may_fail ⨾ Nothing) ∷ [])) (ends ran ∷ []) ≡ Err (not_closed 1 1 0 K2))
+    × (said (plain (root (Work 0 may_fail ⨾ Nothing) ∷ [])) (ends faulted ∷ []) ≡ Err (not_closed 1 1 0 K2))
     × (said (with_one_token (root (Check 0 ⨾ Nothing) ∷ [])) (ends ran ∷ []) ≡ Err (not_closed 1 1 0 K2))
     × (said (with_one_token (root (Check 0 ⨾ Nothing) ∷ [])) (ends ran_or_faulted ∷ []) ≡ Ok tt)
     × (said_given (given_quiet 0 ∷ []) (with_one_token (root (Check 0 ⨾ Nothing) ∷ [])) (ends ran ∷ []) ≡ Ok tt)
@@ -106,7 +106,7 @@ CanceledContinuation =
     × (said (canceled_before 32) (ends ran ∷ ends ran_or_canceled ∷ []) ≡ Ok tt)
     × (said_given (given_quiet 0 ∷ []) (two_tokens 0) (ends nothing ∷ not_run nothing ∷ []) ≡ Err (not_closed 1 1 1 K2))
     × (said_given (given_quiet 0 ∷ []) (two_tokens 32) (ends nothing ∷ not_run nothing ∷ []) ≡ Ok tt)
-    × (said (plain (root (Work 0 true ⨾ Nothing) ∷ continuing 0 returns 0x20000 ∷ [])) (ends ran_or_faulted ∷ ends ran ∷ []) ≡ Err (not_closed 1 1 1 K2))
+    × (said (plain (root (Work 0 may_fail ⨾ Nothing) ∷ continuing 0 returns 0x20000 ∷ [])) (ends ran_or_faulted ∷ ends ran ∷ []) ≡ Err (not_closed 1 1 1 K2))
 
 -- a parent takes over the fault of an attached child that it may start
 abbrev pub ChildFaults : Type 0
@@ -241,7 +241,7 @@ Readers =
     × (read_by 0 (When RanToCompletion Nothing observes ⨾ Nothing) ran [] ≡ Ok tt)
     × (read_by 0 (When RanToCompletion observes Nothing ⨾ Nothing) ran [] ≡ Err (not_closed 1 1 0 K6))
     × (read_by 0 (Cancel 0 ⨾ Nothing) nothing (given_quiet 0 ∷ []) ≡ Ok tt)
-    × (read_by 0 (Work 0 true ⨾ observes) ran_or_faulted [] ≡ Err (not_closed 1 1 0 K6))
+    × (read_by 0 (Work 0 may_fail ⨾ observes) ran_or_faulted [] ≡ Err (not_closed 1 1 0 K6))
     × (read_by 0 (Return ⨾ observes) ran [] ≡ Err (not_closed 1 1 0 K6))
 
 -- what a closed leaf proves
@@ -297,7 +297,7 @@ abbrev pub by_input : TaskGraph
 by_input = with_one_input (root (If 0 returns throws ⨾ Nothing) ∷ [])
 
 abbrev pub job : TaskGraph
-job = plain (root (Work 0 true ⨾ Nothing) ∷ [])
+job = plain (root (Work 0 may_fail ⨾ Nothing) ∷ [])
 
 abbrev pub Assumptions : Type 0
 Assumptions =
@@ -319,9 +319,9 @@ behind_any_rows reader = ends ran ∷ ends faulted ∷ not_run ran ∷ ends read
 
 abbrev pub Subjects : Type 0
 Subjects =
-    (said (plain (root (Work 0 true ⨾ Nothing) ∷ continuing 0 asks 0 ∷ [])) (ends ran_or_faulted ∷ ends ran ∷ []) ≡ Err (not_closed 1 1 1 K2))
-    × (said (plain (root (Work 0 true ⨾ Nothing) ∷ continuing 0 asks 0 ∷ [])) (ends ran_or_faulted ∷ ends ran_or_faulted ∷ []) ≡ Ok tt)
-    × (said (plain (root (Work 0 true ⨾ Nothing) ∷ continuing 0 asks 0x20000 ∷ [])) (ends ran_or_faulted ∷ ends ran_or_canceled ∷ []) ≡ Ok tt)
+    (said (plain (root (Work 0 may_fail ⨾ Nothing) ∷ continuing 0 asks 0 ∷ [])) (ends ran_or_faulted ∷ ends ran ∷ []) ≡ Err (not_closed 1 1 1 K2))
+    × (said (plain (root (Work 0 may_fail ⨾ Nothing) ∷ continuing 0 asks 0 ∷ [])) (ends ran_or_faulted ∷ ends ran_or_faulted ∷ []) ≡ Ok tt)
+    × (said (plain (root (Work 0 may_fail ⨾ Nothing) ∷ continuing 0 asks 0x20000 ∷ [])) (ends ran_or_faulted ∷ ends ran_or_canceled ∷ []) ≡ Ok tt)
     × (said (plain (root throws ∷ continuing 0 asks 0 ∷ [])) (ends faulted ∷ ends faulted ∷ []) ≡ Ok tt)
     × (said (behind_any 0) (behind_any_rows ran) ≡ Err (not_closed 1 1 3 K2))
     × (said (behind_any 0) (behind_any_rows ran_or_faulted) ≡ Ok tt)

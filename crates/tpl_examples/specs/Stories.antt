@@ -8,6 +8,7 @@ use Rattle.tpl_model.specs.declared.event.Event.{Event}
 use Rattle.tpl_model.specs.declared.claim.Given.{Given}
 use Rattle.tpl_model.specs.Statements.{Statements}
 use Rattle.tpl_model.specs.Graph.{TaskGraph, kind}
+use Rattle.tpl_model.specs.declared.outcome.UnderWay.TheVariants.{GoingOn}
 use Rattle.tpl_model.specs.Facts.{Ending, ending, requested as is_requested, started as is_started, rest, winner_of}
 use Rattle.tpl_model.specs.Rules.{status, carried, label, seen, subject, bound_worker, Settled, Allows, Complete}
 use Rattle.tpl_model.specs.Valid.{IsGraph}
@@ -90,7 +91,7 @@ abbrev mutual
   Means g v h (ended t f) = status g v h t ≡ Completed f
   Means g v h (all_ended tasks f) = AllAre g v h tasks (Completed f)
   Means g v h (ended_by t e) = ending g v h t ≡ Some e
-  Means g v h (stands_before t body) = rest g v h t ≡ record { left = body; outcome = None }
+  Means g v h (stands_before t body) = rest g v h t ≡ record { left = body; way = GoingOn }
   Means g v h (threw t l) = label g v h t ≡ Some l
   Means g v h (threw_nothing t) = label g v h t ≡ None
   Means g v h (carries t tasks) = carried g v h t ≡ tasks

@@ -14,7 +14,7 @@ use Rattle.tpl_model.specs.Certificate.{PlainRow, Row}
 use Rattle.tpl_model.specs.TokenRules.{LeafAssumed, assumed_with_tokens, narrowed, end_split}
 use Rattle.tpl_laws.specs.Verdict.{LeafFault, Breaks, ProvesNot}
 use Rattle.tpl_laws.specs.TokenTests.{token_leaf_fault}
-use Rattle.tpl_examples.specs.Words.{root, child, detached_child, continues, when_all, when_any, with_token, with_options, graph, with_tokens, returns, only_on_faulted, ran, canceled, faulted, ends_in, is_observed, never_begins, given_quiet, given_end}
+use Rattle.tpl_examples.specs.Words.{may_fail, root, child, detached_child, continues, when_all, when_any, with_token, with_options, graph, with_tokens, returns, only_on_faulted, ran, canceled, faulted, ends_in, is_observed, never_begins, given_quiet, given_end}
 use Rattle.tpl_examples.specs.CertificateWords.{nothing, ran_or_canceled, ran_or_faulted, ends, behind, not_run, throws, stuck}
 
 -- what a leaf assumes for a claim
@@ -169,7 +169,7 @@ OfArguments =
 
 -- a job that may fail, a continuation where it does, and one behind that
 abbrev pub handled : TaskGraph
-handled = graph (root (Work 7 true ⨾ Nothing) ∷ with_options only_on_faulted (continues 0 returns) ∷ [])
+handled = graph (root (Work 7 may_fail ⨾ Nothing) ∷ with_options only_on_faulted (continues 0 returns) ∷ [])
 
 abbrev pub handled_rows : Finals → List Row
 handled_rows first = plainly (ends first) ∷ plainly (ends ran) ∷ []
@@ -184,7 +184,7 @@ CutBack =
 
 -- where WhenAll ran all its arguments had, and where it was canceled none had failed
 abbrev pub two_jobs : TaskGraph
-two_jobs = graph (root (Work 7 true ⨾ Nothing) ∷ root (Work 8 true ⨾ Nothing) ∷ when_all (0 ∷ 1 ∷ []) ∷ root (Work 9 true ⨾ Nothing) ∷ [])
+two_jobs = graph (root (Work 7 may_fail ⨾ Nothing) ∷ root (Work 8 may_fail ⨾ Nothing) ∷ when_all (0 ∷ 1 ∷ []) ∷ root (Work 9 may_fail ⨾ Nothing) ∷ [])
 
 abbrev pub two_jobs_rows : Finals → Finals → Finals → List Row
 two_jobs_rows first both last = plainly (ends first) ∷ plainly (ends first) ∷ plainly (not_run both) ∷ plainly (ends last) ∷ []

@@ -5,7 +5,7 @@ use Rattle.tpl_model.specs.Options.{prefer_fairness_bit, long_running_bit, lazy_
 use Rattle.tpl_model.specs.Statements.{Return, Throw, Check, Cancel, Start, Observe, Work, If, When, Statements, Nothing, ◌⨾◌}
 use Rattle.tpl_model.specs.Graph.{TaskGraph, Task, Token, Plain, Linked}
 use Rattle.tpl_model.specs.Valid.{IsGraph, bound}
-use Rattle.tpl_examples.specs.Words.{returns, throwing, jobs, bare, root, child, detached_child, continues, when_all, when_any, with_token, with_options, only_on_faulted, graph, with_tokens, with_inputs}
+use Rattle.tpl_examples.specs.Words.{is_sure, may_fail, returns, throwing, jobs, bare, root, child, detached_child, continues, when_all, when_any, with_token, with_options, only_on_faulted, graph, with_tokens, with_inputs}
 
 -- tasks of every kind, with tokens, inputs, options and every statement
 abbrev pub every_kind_graph : TaskGraph
@@ -13,9 +13,9 @@ every_kind_graph =
     with_tokens (Plain ∷ Linked (0 ∷ []) ∷ [])
     (with_inputs 1
     (graph
-    (with_options 0x5F (with_token 0 (root (Start 1 ⨾ Check 0 ⨾ If 0 (Cancel 1 ⨾ Nothing) (Start 2 ⨾ Nothing) ⨾ Work 0 true ⨾ Return ⨾ Nothing)))
+    (with_options 0x5F (with_token 0 (root (Start 1 ⨾ Check 0 ⨾ If 0 (Cancel 1 ⨾ Nothing) (Start 2 ⨾ Nothing) ⨾ Work 0 may_fail ⨾ Return ⨾ Nothing)))
     ∷ with_options 0x5F (child (Start 3 ⨾ Throw 0 ⨾ Nothing))
-    ∷ detached_child (Work 1 false ⨾ Nothing)
+    ∷ detached_child (Work 1 is_sure ⨾ Nothing)
     ∷ child Nothing
     ∷ with_options 0x8007D (with_token 1 (continues 0 (Observe ⨾ When Faulted (Throw 0 ⨾ Nothing) (When Canceled (Check 1 ⨾ Nothing) Nothing ⨾ Nothing) ⨾ Start 9 ⨾ Nothing)))
     ∷ when_all (0 ∷ 4 ∷ 0 ∷ [])
@@ -99,11 +99,11 @@ NumberOfJobs = IsGraph (jobs_and []) × NoneIsGraph (jobs_and (root (jobs 256 1)
 
 -- the job at one site
 abbrev pub job : Statements
-job = Work 3 true ⨾ Nothing
+job = Work 3 may_fail ⨾ Nothing
 
 -- a job stands at one place of one body
 abbrev pub JobStandsOnce : Type 0
-JobStandsOnce = NoneIsGraph (graph (root (Work 3 true ⨾ job) ∷ []) ∷ with_input (root (branch job Nothing) ∷ root job ∷ []) ∷ [])
+JobStandsOnce = NoneIsGraph (graph (root (Work 3 may_fail ⨾ job) ∷ []) ∷ with_input (root (branch job Nothing) ∷ root job ∷ []) ∷ [])
 
 -- WhenAll and WhenAny have at most 256 arguments, and WhenAny has one
 abbrev pub NumberOfArguments : Type 0

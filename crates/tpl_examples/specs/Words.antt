@@ -5,6 +5,7 @@ use Rattle.tpl_model.specs.declared.finals.Final.{Final}
 use Rattle.tpl_model.specs.declared.finals.Finals.{Finals}
 use Rattle.tpl_model.specs.declared.status.Actor.{Actor}
 use Rattle.tpl_model.specs.declared.status.Actor.TheVariants.{Worker, Outside}
+use Rattle.tpl_model.specs.declared.status.Answers.{Answers}
 use Rattle.tpl_model.specs.declared.status.Answer.TheVariants.{Done, Failed}
 use Rattle.tpl_model.specs.declared.status.Label.{Label}
 use Rattle.tpl_model.specs.declared.status.Label.TheVariants.{Thrown, OperationCanceled, WorkFailed}
@@ -28,6 +29,13 @@ worker n = Worker (record { 0 = n })
 
 abbrev pub outside : ℕ → Actor
 outside seat = Outside seat
+
+-- what a job may answer: that it failed, or nothing else than that it is done
+abbrev pub may_fail : Answers
+may_fail = record { may_fail = true; may_cancel = false }
+
+abbrev pub is_sure : Answers
+is_sure = record { may_fail = false; may_cancel = false }
 
 -- a task, by its number
 abbrev pub task : ℕ → TaskId
@@ -91,7 +99,7 @@ throwing l = Throw l ⨾ Nothing
 -- n jobs that can't fail, at sites from this one on
 abbrev pub jobs : ℕ → ℕ → Statements
 jobs site zero = Nothing
-jobs site (suc n) = Work site false ⨾ jobs (suc site) n
+jobs site (suc n) = Work site is_sure ⨾ jobs (suc site) n
 
 -- the option words that exclude two ways to end
 abbrev pub only_on_canceled : ℕ
@@ -106,13 +114,13 @@ only_on_ran_to_completion = not_on Faulted + not_on Canceled
 -- a task of a kind with a body, without token and options; then the kinds. A child is attached to its parent unless it
 -- is detached
 abbrev pub bare : TaskKind → Statements → Task
-bare kind body = record { kind = kind; body = body; token = None; options = 0 }
+bare kind body = record { kind = kind; body = body; token = None; options = 0; is_async = false }
 
 abbrev pub root : Statements → Task
 root body = bare Root body
 
 abbrev pub child : Statements → Task
-child body = record { kind = Child; body = body; token = None; options = attached_to_parent_bit }
+child body = record { kind = Child; body = body; token = None; options = attached_to_parent_bit; is_async = false }
 
 abbrev pub detached_child : Statements → Task
 detached_child body = bare Child body
@@ -128,14 +136,14 @@ when_any args = bare (WhenAny args) Nothing
 
 -- the same with a token, and with these option words
 abbrev pub with_token : ℕ → Task → Task
-with_token k t = record { kind = t.kind; body = t.body; token = Some k; options = t.options }
+with_token k t = record { kind = t.kind; body = t.body; token = Some k; options = t.options; is_async = t.is_async }
 
 abbrev pub with_options : ℕ → Task → Task
-with_options word t = record { kind = t.kind; body = t.body; token = t.token; options = word }
+with_options word t = record { kind = t.kind; body = t.body; token = t.token; options = word; is_async = t.is_async }
 
 -- a root with the first token that may end in each of the three ways: it checks this token, then does a job that may fail
 abbrev pub in_three_ways : Task
-in_three_ways = with_token 0 (root (Check 0 ⨾ Work 0 true ⨾ Nothing))
+in_three_ways = with_token 0 (root (Check 0 ⨾ Work 0 may_fail ⨾ Nothing))
 
 -- a graph of these tasks, at first without tokens and inputs
 abbrev pub graph : List Task → TaskGraph

@@ -156,7 +156,7 @@ module _ (d : Draft) (valid : IsValid d) where
   g = graph_in (names_of d) d
 
   abbrev empty : graph.Task
-  empty = record { kind = graph.Root; body = script.Nothing; token = None; options = 0 }
+  empty = record { kind = graph.Root; body = script.Nothing; token = None; options = 0; is_async = false }
 
   pub none_at : (w : Why) (t : ℕ) (x : Task) → slice_get d.tasks t ≡ Some x → in_task d w t x ≡ false
   none_at w t x e = sym (ap (at_task (in_task d w t)) e) ∙ valid w (suc t)

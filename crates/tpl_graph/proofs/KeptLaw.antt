@@ -59,7 +59,7 @@ module _ (d : Draft) (valid : IsValid d) where
       let two : one.0 ∷ [] ≡ p ∷ q ∷ ps = sym one.1 ∙ e in
       cc)
       (λ past. let none : false ≡ true = sym (law.past_child d.tasks c past.0) ∙ law.starts_child d valid r c is in cc)
-      (find (task_in (names_of d)) (record { kind = graph.Root; body = script.Nothing; token = None; options = 0 }) d.tasks c)
+      (find (task_in (names_of d)) (record { kind = graph.Root; body = script.Nothing; token = None; options = 0; is_async = false }) d.tasks c)
 
   each_parent : (starters : List Starter) → length starters ≡ length d.tasks → AreStarters d starters → EachAt (IsParentOf g) (map parent_in starters)
   each_parent starters long are c o at =
@@ -74,7 +74,7 @@ module _ (d : Draft) (valid : IsValid d) where
       let within : p < length g.tasks = omega (arith, below, ap length starts_are, length-map starts_of numbers, length-map g.tasks (λ (x : graph.Task). starts x.body)) in
       let here : slice_get lists p ≡ Some (starts (body g p)) = map_here (λ (x : graph.Task). starts x.body) g.tasks p (task g p) within (get_or_default g.tasks p _ _ within) in
       each p kids at (starts (body g p)) (ap (λ l. slice_get l p) starts_are ∙ here)
-      ∙ ap (λ (ts : List graph.Task). filter (λ c. attached_to_parent (slice_index_or ts c (record { kind = graph.Root; body = script.Nothing; token = None; options = 0 })).options && not (deny_child_attach (slice_index_or ts p (record { kind = graph.Root; body = script.Nothing; token = None; options = 0 })).options)) (starts (body g p))) tasks
+      ∙ ap (λ (ts : List graph.Task). filter (λ c. attached_to_parent (slice_index_or ts c (record { kind = graph.Root; body = script.Nothing; token = None; options = 0; is_async = false })).options && not (deny_child_attach (slice_index_or ts p (record { kind = graph.Root; body = script.Nothing; token = None; options = 0; is_async = false })).options)) (starts (body g p))) tasks
 
   pub are_kept : (rows : List Row) (starts_of : List (Vec TaskId Global)) (starters : List Starter) (parents : List (Option TaskId)) (children : List (Vec TaskId Global)) (tokens most : ℕ) → map task_of rows ≡ g.tasks → map numbers starts_of ≡ lists → length starters ≡ length d.tasks → AreStarters d starters → parents ≡ map parent_in starters → length children ≡ length starts_of → EachAt (λ p kids. (list : List ℕ) → slice_get (map numbers starts_of) p ≡ Some list → numbers kids ≡ attached_of rows p list) children → tokens ≡ length g.tokens → most ≡ tokens + sum_by (λ (row : Row). 4 + statement_count row.script) rows → AreKept (numbered d) parents children most
   are_kept rows starts_of starters parents children tokens most tasks starts_are long are parents_are children_long each tokens_are most_is = record {

@@ -1,5 +1,5 @@
 -- What the rules of a graph say to its readers.
-use Rattle.std.proofs.Common.{◌≡◌, ℕ, zero, suc, ◌+◌, ◌*◌, ◌<◌, ◌≤◌, List, [], ◌∷◌, length, refl, sym, ap, ◌∙◌, arith}
+use Rattle.std.proofs.Common.{◌≡◌, ℕ, false, zero, suc, ◌+◌, ◌*◌, ◌<◌, ◌≤◌, List, [], ◌∷◌, length, refl, sym, ap, ◌∙◌, arith}
 use Rattle.std.proofs.Common.{get_or}
 use Rattle.std.proofs.lemmas.Option.{slice_get-get_or}
 use Rattle.std.proofs.lemmas.List.Sums.{sum_by-cons}
@@ -21,7 +21,7 @@ sum_at_most f d (x ∷ xs) each =
 
 pub bound-limit : (g : TaskGraph) → IsGraph g → bound g ≤ 69664
 bound-limit g is =
-    let sum : sum_by (λ (t : Task). 4 + statement_count t.body) g.tasks ≤ 68 * length g.tasks = sum_at_most (λ (t : Task). 4 + statement_count t.body) (record { kind = Root; body = Nothing; token = None; options = 0 }) g.tasks (λ t lt. let short = (is.each t lt).short.0 in omega arith) in
+    let sum : sum_by (λ (t : Task). 4 + statement_count t.body) g.tasks ≤ 68 * length g.tasks = sum_at_most (λ (t : Task). 4 + statement_count t.body) (record { kind = Root; body = Nothing; token = None; options = 0; is_async = false }) g.tasks (λ t lt. let short = (is.each t lt).short.0 in omega arith) in
     omega (arith, is.tasks, is.tokens)
 
 pub length-numbers_from : (n count : ℕ) → length (numbers_from n count) ≡ count

@@ -1,5 +1,5 @@
 -- What the table of sites says to the readers of a graph.
-use Rattle.std.proofs.Common.{◌≡◌, ℕ, zero, suc, ◌+◌, ◌<◌, true, ◌++◌, List, [], ◌∷◌, length, map, flat_map, get_or, nat_eq, sym, ap, ◌∙◌, arith, ◌⊎◌, inl, inr, ⊎_elim}
+use Rattle.std.proofs.Common.{◌≡◌, ℕ, zero, suc, ◌+◌, ◌<◌, true, false, ◌++◌, List, [], ◌∷◌, length, map, flat_map, get_or, nat_eq, sym, ap, ◌∙◌, arith, ◌⊎◌, inl, inr, ⊎_elim}
 use Rattle.std.specs.Prelude.{Some, None, slice_get, slice_index_or, ◌||◌}
 use Rattle.std.proofs.lemmas.Bool.{eq-eqb, or_right}
 use Rattle.tpl_model.specs.Members.{mem}
@@ -48,7 +48,7 @@ in_first_or_rest n o s (y ∷ ys) owners more (suc i) at_o at_s = ⊎_elim
     (in_first_or_rest n o s ys owners more i at_o at_s)
 
 abbrev pub empty : graph.Task
-empty = record { kind = graph.Root; body = script.Nothing; token = None; options = 0 }
+empty = record { kind = graph.Root; body = script.Nothing; token = None; options = 0; is_async = false }
 
 has_site : (n o s : ℕ) (ts : List graph.Task) (i : ℕ) → slice_get (owners_from n ts) i ≡ Some o → slice_get (flat_map (λ (x : graph.Task). sites x.body) ts) i ≡ Some s → (k : ℕ) × (o ≡ n + k) × (k < length ts) × (mem s (sites (slice_index_or ts k empty).body) ≡ true)
 has_site n o s [] i at_o at_s = absurd (cc)

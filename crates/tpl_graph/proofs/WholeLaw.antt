@@ -43,7 +43,7 @@ module _ (d : Draft) (valid : IsValid d) where
       let last = ltb-false 256 (site_total (take (suc (length d.tasks - 1)) d.tasks)) (or_second (exceeds (length d.tasks - 1) r.0) (nat_lt 256 (site_total (take (suc (length d.tasks - 1)) d.tasks))) (none_at d valid why.TooMany (length d.tasks - 1) r.0 r.1)) in
       subst (λ l. site_total l ≤ 256) (take_all (suc (length d.tasks - 1)) d.tasks (omega arith)) last)
       (λ r. absurd (omega (arith, r.0)))
-      (find (task_in (names_of d)) (record { kind = graph.Root; body = script.Nothing; token = None; options = 0 }) d.tasks (length d.tasks - 1)))
+      (find (task_in (names_of d)) (record { kind = graph.Root; body = script.Nothing; token = None; options = 0; is_async = false }) d.tasks (length d.tasks - 1)))
       (λ none. subst (λ l. site_total l ≤ 256) (take_all 0 d.tasks none) (omega arith))
       (cases_lt 0 (length d.tasks))
 
@@ -83,7 +83,7 @@ module _ (d : Draft) (valid : IsValid d) where
       (λ y e. adds_names [] (all_named Labels d.tasks) y (any_flat (λ (x : Task). flat_map (names_in Labels) (statements_in x)) (bytes_eq y) d.tasks t r.0 r.1 e))
       (λ y e. any_flat (λ (x : Task). flat_map (names_in Sites) (statements_in x)) (bytes_eq y) d.tasks t r.0 r.1 e)))
       (λ r. let long = length-map d.tasks (task_in (names_of d)) in absurd (omega arith))
-      (find (task_in (names_of d)) (record { kind = graph.Root; body = script.Nothing; token = None; options = 0 }) d.tasks t)
+      (find (task_in (names_of d)) (record { kind = graph.Root; body = script.Nothing; token = None; options = 0; is_async = false }) d.tasks t)
 
   tokens_spelled : AreSpelled (names_of d).tokens
   tokens_spelled = none_bad (names_of d).tokens (or_second (list_any is_bad_name (names_of d).inputs) (list_any is_bad_name (names_of d).tokens) (valid why.BadName 0))

@@ -19,7 +19,7 @@ use Rattle.tpl_model.specs.declared.event.Act.TheVariants.{Release, Begin, Step,
 use Rattle.tpl_model.specs.declared.event.Event.{Event}
 use Rattle.tpl_model.specs.Options.{allows}
 use Rattle.tpl_model.specs.Statements.{Statement, Return, Throw, Check, Cancel, Start, Observe, Work, If, When, Await, Wait, AwaitAny, Try, Rethrow, Trying, Caught, Leaving, Statements, Nothing, ◌⨾◌}
-use Rattle.tpl_model.specs.Awaits.{IsHead, itself, of_parent as head_of_parent, IsOlder, brother, of_parent, MayAwait, MayAwaitAll, MayStand, started_before, none_started}
+use Rattle.tpl_model.specs.Awaits.{IsHead, itself, of_parent, IsOlder, brother, uncle, MayAwait, MayAwaitAll, MayStand, started_before, none_started}
 use Rattle.tpl_model.specs.Rests.{Rest}
 use Rattle.tpl_model.specs.Cursor.{comes_next}
 use Rattle.tpl_model.specs.Paths.{outcome_of}
@@ -95,12 +95,30 @@ over_some : (o : Option Outcome) → is_some (outcome_of o Nothing) ≡ true
 over_some None = refl
 over_some (Some x) = refl
 
-module _ (g : TaskGraph) (v : List Bool) (h : List Event) (valid : IsGraph g) (run : Run g v h) where
-  -- the task has ended, or the run can go on
-  abbrev Over : ℕ → Type 0
-  Over t = (is_some (ending g v h t) ≡ true) ⊎ CanGoOn g v h
+-- the task has ended, or the run can go on
+abbrev IsOver : TaskGraph → List Bool → List Event → ℕ → Type 0
+IsOver g v h t = (is_some (ending g v h t) ≡ true) ⊎ CanGoOn g v h
 
-  -- so it is where it has to end
+-- so it is with what a task waits for
+record WaitsFor (g : TaskGraph) (v : List Bool) (h : List Event) (t : ℕ) : Type 0 where
+  kids : (c : ℕ) → IsParent g t c → started g v h c ≡ true → IsOver g v h c
+  awaits : (x : ℕ) → is_task g x → MayAwait g t (started g v h) x → IsOver g v h x
+  earlier : (x : ℕ) → (kind g x ≡ Child → ⊥) → x < t → (kind g t ≡ Child → ⊥) → IsOver g v h x
+
+-- and with the tasks before t in the order, but for what is below it: those of earlier families, its older brothers, and
+-- those of its parents
+record IsAfter (g : TaskGraph) (v : List Bool) (h : List Event) (t : ℕ) : Type 0 where
+  heads : (x y : ℕ) → is_task g x → (kind g x ≡ Child → ⊥) → IsHead g t y → x < y → IsOver g v h x
+  older : (x : ℕ) → IsOlder g x t → IsOver g v h x
+
+module _ (g : TaskGraph) (v : List Bool) (h : List Event) (valid : IsGraph g) (run : Run g v h) where
+  abbrev Over : ℕ → Type 0
+  Over t = IsOver g v h t
+
+  abbrev Before : ℕ → Type 0
+  Before t = IsAfter g v h t
+
+  -- a task is over where it has to end
   abbrev Claim : ℕ → Type 0
   Claim t = to_end (kind g t) (started g v h t) ≡ true → Over t
 
@@ -130,14 +148,8 @@ module _ (g : TaskGraph) (v : List Bool) (h : List Event) (valid : IsGraph g) (r
       one false e = inl (or_left (not (started g v h c)) (is_some (ending g v h c)) (ap not e))
       one true e = elim (f c (mem_here c cs) e) [ inl q ↦ inl (or_right (not (started g v h c)) (is_some (ending g v h c)) q) | inr z ↦ inr z ]
 
-  -- what a task waits for
-  record WaitsFor (t : ℕ) : Type 0 where
-    kids : (c : ℕ) → IsParent g t c → started g v h c ≡ true → Over c
-    awaits : (x : ℕ) → is_task g x → MayAwait g t (started g v h) x → Over x
-    earlier : (x : ℕ) → (kind g x ≡ Child → ⊥) → x < t → (kind g t ≡ Child → ⊥) → Over x
-
   -- a task that hasn't ended, where what it waits for has
-  module _ (t : ℕ) (i : is_task g t) (open_still : ending g v h t ≡ None) (waits : WaitsFor t) where
+  module _ (t : ℕ) (i : is_task g t) (open_still : ending g v h t ≡ None) (waits : WaitsFor g v h t) where
     unended : is_some (ending g v h t) ≡ false
     unended = ap is_some open_still
 
@@ -278,17 +290,12 @@ module _ (g : TaskGraph) (v : List Bool) (h : List Event) (valid : IsGraph g) (r
         by_left true e = closes e
         by_left false e = by_begun (begun h t) refl e
 
-  one : (t : ℕ) → is_task g t → WaitsFor t → Claim t
+  one : (t : ℕ) → is_task g t → WaitsFor g v h t → Claim t
   one t i waits s =
       elim (cases_Bool (is_some (ending g v h t))) [
         | inl e ↦ inl e
         | inr e ↦ inr (goes t i (not_some (ending g v h t) e) waits s)
       ]
-
-  -- the tasks before t in the order, but for what is below it: those of earlier families, and its older brothers and theirs
-  record Before (t : ℕ) : Type 0 where
-    heads : (x y : ℕ) → is_task g x → (kind g x ≡ Child → ⊥) → IsHead g t y → x < y → Over x
-    older : (x : ℕ) → IsOlder g x t → Over x
 
   -- children have larger numbers
   below_later : (p c : ℕ) → IsParent g p c → p < c
@@ -301,7 +308,7 @@ module _ (g : TaskGraph) (v : List Bool) (h : List Event) (valid : IsGraph g) (r
   module _ (t : ℕ) (before : Before t) (each : (c : ℕ) → IsParent g t c → Before c → Claim c) where
     child_heads : (c : ℕ) → IsParent g t c → (x y : ℕ) → is_task g x → (kind g x ≡ Child → ⊥) → IsHead g c y → x < y → Over x
     child_heads c m x y i n (itself no) lt = absurd (no ((child_rules g t c valid m).child t m))
-    child_heads c m x y i n (head_of_parent {p = p} k par head) lt =
+    child_heads c m x y i n (of_parent {p = p} k par head) lt =
         before.heads x y i n (subst (λ z. IsHead g z y) ((child_rules g t c valid m).one_parent p t par m) head) lt
 
     started_later : (later h2 : List Event) → later ++ h2 ≡ h → (x : ℕ) → started g v h2 x ≡ true → started g v h x ≡ true
@@ -332,7 +339,7 @@ module _ (g : TaskGraph) (v : List Bool) (h : List Event) (valid : IsGraph g) (r
             let was : started g v h2 y ≡ true = f y (subst (λ z. started_before c y (body g z) none_started ≡ true) same q) in
             each y ours (kids h2 (later ++ x ∷ []) shorter y ours was)
             (subst (λ k. to_end k (started g v h y) ≡ true) (sym ((child_rules g t y valid ours).child t ours)) (started_later (later ++ x ∷ []) h2 shorter y was))
-        older y (of_parent {p = p} par o) f = before.older y (subst (IsOlder g y) ((child_rules g t c valid m).one_parent p t par m) o)
+        older y (uncle {p = p} par o) f = before.older y (subst (IsOlder g y) ((child_rules g t c valid m).one_parent p t par m) o)
 
     child_over : (c : ℕ) → IsParent g t c → started g v h c ≡ true → Over c
     child_over c m s =
@@ -370,10 +377,10 @@ module _ (g : TaskGraph) (v : List Bool) (h : List Event) (valid : IsGraph g) (r
           earlier x y j other (itself p) less =
               let e = non_child (kind g x) (started g v h x) other in
               over (length g.tasks) x (omega arith) j (all_before n x (omega arith) j e) e
-          earlier x y j other (head_of_parent k par head) less = absurd (no k)
+          earlier x y j other (of_parent k par head) less = absurd (no k)
           none_older : (x : ℕ) → IsOlder g x t → Over x
           none_older x (brother p par other q) = absurd (no ((child_rules g p t valid par).child p par))
-          none_older x (of_parent {p = p} par o) = absurd (no ((child_rules g p t valid par).child p par))
+          none_older x (uncle {p = p} par o) = absurd (no ((child_rules g p t valid par).child p par))
       kid : kind g t ≡ Child → Before t
       kid e =
           let st : started g v h t ≡ true = subst (λ k. to_end k (started g v h t) ≡ true) e s in

@@ -191,5 +191,5 @@ failed_by_its_label_lem g v h site t valid run stands = (to, λ e. threw_failed 
     to e =
         let w = failed_stands g v h site.0 run e in
         let few : counted site.0 (all_sites g) ≤ 1 = subst (λ z. z ≤ 1) (sym (is_count_by (counted site.0) (nat_eq site.0) refl (λ _ _. refl) (all_sites g))) (valid.sites_once site.0) in
-        let same = one_owner site.0 (record { kind = Root; body = Nothing; token = None; options = 0 }) refl g.tasks w.0 t few w.2 stands in
+        let same = one_owner site.0 (record { kind = Root; body = Nothing; token = None; options = 0; is_async = false }) refl g.tasks w.0 t few w.2 stands in
         subst (λ z. label g v h z ≡ Some (WorkFailed site)) same (ap label_in w.1)

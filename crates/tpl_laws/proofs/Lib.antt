@@ -1,6 +1,9 @@
 pub mod Basics
 pub mod Sources
 pub mod Kept
+pub mod Moves
+pub mod Children
+pub mod SurelyStarted
 pub mod Execution
 pub mod Ready
 pub mod Begins
@@ -22,6 +25,7 @@ pub mod TokenSound
 pub mod Sizes
 pub mod Bound
 pub mod Prefixes
+pub mod GoingOn
 pub mod LinkLaws
 pub mod Deciding
 pub mod Parents

@@ -18,7 +18,9 @@ use Rattle.tpl_model.specs.declared.event.Act.{Act}
 use Rattle.tpl_model.specs.declared.event.Act.TheVariants.{Step, Worked, Resume}
 use Rattle.tpl_model.specs.declared.event.Event.{Event}
 use Rattle.tpl_model.specs.Paths.{cancellation}
-use Rattle.tpl_model.specs.Facts.{Ending, on, uncaught, starts_by, rest_after, step_of, stepped, worked, resumed, rest, requested, started, ending, is_start, is_winner, subject_in, has_final}
+use Rattle.tpl_model.specs.declared.outcome.Outcome.TheVariants.{Threw}
+use Rattle.tpl_model.specs.declared.status.Label.TheVariants.{Thrown, WorkFailed, WorkCanceled}
+use Rattle.tpl_model.specs.Facts.{Ending, on, uncaught, awaited, waited, first_so, starts_by, rest_after, step_of, stepped, worked, resumed, rest, requested, started, ending, is_start, is_winner, subject_in, has_final}
 use Rattle.tpl_model.specs.Rules.{Allows, Run, works, steps, may_resume}
 use Rattle.tpl_laws.proofs.Basics.{if_true, if_false, same_number}
 use Rattle.tpl_laws.proofs.Kept.{id, after}
@@ -69,11 +71,11 @@ either_list s false a b x y = y
 
 step_moves : (g : TaskGraph) (v : List Bool) (t : ℕ) (r : Rest) (s : Statement) (more : Statements) (req : ℕ → Bool) (en : ℕ → Option Ending) → r.left ≡ s ⨾ more → comes_next s ≡ true → steps (s ⨾ more) ≡ true → Moved r (step_of g v t s more req en)
 step_moves g v t r Return more req en e n m = moved_to r Return more more Returning (rest_at more Returning) e (passes no_way) refl
-step_moves g v t r (Throw l) more req en e n m = moved_to r (Throw l) more more _ _ e (passes no_way) refl
+step_moves g v t r (Throw l) more req en e n m = moved_to r (Throw l) more more (Throwing (Thrown (record { 0 = l }))) _ e (passes no_way) refl
 step_moves g v t r (Check k) more req en e n m = go (req k)
   where
     go : (b : Bool) → Moved r (if b then rest_at more (Canceling (uncaught (is_async g t) (cancellation (task g t).token k))) else on more)
-    go true = moved_to r (Check k) more more _ _ e (passes (λ i. refl)) refl
+    go true = moved_to r (Check k) more more (Canceling (uncaught (is_async g t) (cancellation (task g t).token k))) _ e (passes (λ i. refl)) refl
     go false = moved_to r (Check k) more more GoingOn _ e (passes (λ i. refl)) refl
 step_moves g v t r (Cancel k) more req en e n m = moved_to r (Cancel k) more more GoingOn _ e (passes (λ i. refl)) refl
 step_moves g v t r (Start c) more req en e n m = moved_to r (Start c) more more GoingOn _ e (passes (λ i. refl)) refl
@@ -128,13 +130,13 @@ stepped_moves g v t r (s ⨾ more) req en st e m =
 
 pub worked_moves : (async : Bool) (w : Answer) (r : Rest) (left : Statements) → r.left ≡ left → works w left ≡ true → Moved r (worked async w left)
 worked_moves async Done r (Work s a ⨾ more) e m = moved_to r (Work s a) more more GoingOn _ e (passes (λ i. refl)) refl
-worked_moves async Failed r (Work s a ⨾ more) e m = moved_to r (Work s a) more more _ _ e (passes (λ i. refl)) refl
-worked_moves async Canceled r (Work s a ⨾ more) e m = moved_to r (Work s a) more more _ _ e (passes (λ i. refl)) refl
+worked_moves async Failed r (Work s a ⨾ more) e m = moved_to r (Work s a) more more (Throwing (WorkFailed (record { 0 = s }))) _ e (passes (λ i. refl)) refl
+worked_moves async Canceled r (Work s a ⨾ more) e m = moved_to r (Work s a) more more (Canceling (uncaught async (Threw (WorkCanceled (record { 0 = s }))))) _ e (passes (λ i. refl)) refl
 worked_moves async w r left e m = no_way m
 
 pub resumed_moves : (g : TaskGraph) (winner : Option TaskId) (r : Rest) (left : Statements) (rs : ℕ → Rest) (en : ℕ → Option Ending) → r.left ≡ left → may_resume winner left en ≡ true → Moved r (resumed g winner left rs en)
-resumed_moves g None r (Await xs ⨾ more) rs en e m = moved_to r (Await xs) more more _ _ e (passes (λ i. refl)) refl
-resumed_moves g None r (Wait xs ⨾ more) rs en e m = moved_to r (Wait xs) more more _ _ e (passes (λ i. refl)) refl
+resumed_moves g None r (Await xs ⨾ more) rs en e m = moved_to r (Await xs) more more (awaited g (first_so Faulted xs en) (first_so FinalCanceled xs en) rs en) _ e (passes (λ i. refl)) refl
+resumed_moves g None r (Wait xs ⨾ more) rs en e m = moved_to r (Wait xs) more more (waited (first_so Faulted xs en) (first_so FinalCanceled xs en) rs en) _ e (passes (λ i. refl)) refl
 resumed_moves g (Some w) r (AwaitAny xs won a b ⨾ more) rs en e m =
     moved_to r (AwaitAny xs won a b) more (followed_by (if is_winner won (Some w) then a else b) more) GoingOn _ e
     (chooses (if is_winner won (Some w) then a else b) (either_list (AwaitAny xs won a b) (is_winner won (Some w)) a b (inl refl) (inr refl))) refl
@@ -163,46 +165,49 @@ not_resumed None (Wait xs ⨾ more) en d e f = true_false (sym f)
 not_resumed (Some w) (AwaitAny xs won a b ⨾ more) en d e f = true_false (sym f)
 not_resumed w left en d e f = true_false (sym e)
 
-mutual
-  -- where a body stands at any time
-  pub stood : (g : TaskGraph) (v : List Bool) (h : List Event) (t : ℕ) → Run g v h → Stood (rest g v h t)
-  stood g v [] t run = at_stood (body g t) GoingOn
-  stood g v (e ∷ h) t run = elim (goes_or_stays g v h e.actor e.act t run.0 run.1) [
-      | inl p ↦ subst Stood (sym p.1.is) (at_stood p.1.to p.1.way)
-      | inr p ↦ subst Stood (sym p) (stood g v h t run.0)
+-- an event leaves the body of t as it is, or t goes on by it
+goes_by : (g : TaskGraph) (v : List Bool) (h : List Event) (a : Actor) (x : Act) (t : ℕ) → Stood (rest g v h t) → Allows g v h a x → Goes g v h a x t ⊎ (rest g v (after a x h) t ≡ rest g v h t)
+goes_by g v h a (Step s) t st al =
+    elim (cases_Bool (nat_eq s.0 t)) [
+      | inl q ↦
+          let same : s.0 ≡ t = same_number s.0 t q in
+          inl (inl (ap (λ z. Step (id z)) same),
+          moved_if (rest g v h t) (stepped g v t (rest g v h t).left (requested g v h) (ending g v h)) (rest g v h t) (nat_eq s.0 t) q
+          (stepped_moves g v t (rest g v h t) (rest g v h t).left (requested g v h) (ending g v h) st refl (subst (λ z. steps (rest g v h z).left ≡ true) same al.2)),
+          λ d i. or_left (is_start d (rest g v h s.0).left) (started g v h d) (subst (λ z. is_start d (rest g v h z).left ≡ true) (sym same) i))
+      | inr q ↦ inr (if_false (nat_eq s.0 t) (stepped g v t (rest g v h t).left (requested g v h) (ending g v h)) (rest g v h t) q)
     ]
+goes_by g v h a (Worked s w) t st al =
+    elim (cases_Bool (nat_eq s.0 t)) [
+      | inl q ↦
+          let same : s.0 ≡ t = same_number s.0 t q in
+          let works_t : works w (rest g v h t).left ≡ true = subst (λ z. works w (rest g v h z).left ≡ true) same al.2 in
+          inl (inr (inl (w, ap (λ z. Worked (id z) w) same)),
+          moved_if (rest g v h t) (worked (is_async g t) w (rest g v h t).left) (rest g v h t) (nat_eq s.0 t) q
+          (worked_moves (is_async g t) w (rest g v h t) (rest g v h t).left refl works_t),
+          λ d i. absurd (not_started w (rest g v h t).left d works_t i))
+      | inr q ↦ inr (if_false (nat_eq s.0 t) (worked (is_async g t) w (rest g v h t).left) (rest g v h t) q)
+    ]
+goes_by g v h a (Resume s w) t st al =
+    elim (cases_Bool (nat_eq s.0 t)) [
+      | inl q ↦
+          let same : s.0 ≡ t = same_number s.0 t q in
+          let may_t : may_resume w (rest g v h t).left (ending g v h) ≡ true = subst (λ z. may_resume w (rest g v h z).left (ending g v h) ≡ true) same al.3 in
+          inl (inr (inr (w, ap (λ z. Resume (id z) w) same)),
+          moved_if (rest g v h t) (resumed g w (rest g v h t).left (rest g v h) (ending g v h)) (rest g v h t) (nat_eq s.0 t) q
+          (resumed_moves g w (rest g v h t) (rest g v h t).left (rest g v h) (ending g v h) refl may_t),
+          λ d i. absurd (not_resumed w (rest g v h t).left (ending g v h) d may_t i))
+      | inr q ↦ inr (if_false (nat_eq s.0 t) (resumed g w (rest g v h t).left (rest g v h) (ending g v h)) (rest g v h t) q)
+    ]
+goes_by g v h a x t st al = inr refl
 
-  pub goes_or_stays : (g : TaskGraph) (v : List Bool) (h : List Event) (a : Actor) (x : Act) (t : ℕ) → Run g v h → Allows g v h a x → Goes g v h a x t ⊎ (rest g v (after a x h) t ≡ rest g v h t)
-  goes_or_stays g v h a (Step s) t run al =
-      elim (cases_Bool (nat_eq s.0 t)) [
-        | inl q ↦
-            let same : s.0 ≡ t = same_number s.0 t q in
-            inl (inl (ap (λ z. Step (id z)) same),
-            moved_if (rest g v h t) (stepped g v t (rest g v h t).left (requested g v h) (ending g v h)) (rest g v h t) (nat_eq s.0 t) q
-            (stepped_moves g v t (rest g v h t) (rest g v h t).left (requested g v h) (ending g v h) (stood g v h t run) refl (subst (λ z. steps (rest g v h z).left ≡ true) same al.2)),
-            λ d i. or_left (is_start d (rest g v h s.0).left) (started g v h d) (subst (λ z. is_start d (rest g v h z).left ≡ true) (sym same) i))
-        | inr q ↦ inr (if_false (nat_eq s.0 t) (stepped g v t (rest g v h t).left (requested g v h) (ending g v h)) (rest g v h t) q)
-      ]
-  goes_or_stays g v h a (Worked s w) t run al =
-      elim (cases_Bool (nat_eq s.0 t)) [
-        | inl q ↦
-            let same : s.0 ≡ t = same_number s.0 t q in
-            let works_t : works w (rest g v h t).left ≡ true = subst (λ z. works w (rest g v h z).left ≡ true) same al.2 in
-            inl (inr (inl (w, ap (λ z. Worked (id z) w) same)),
-            moved_if (rest g v h t) (worked (is_async g t) w (rest g v h t).left) (rest g v h t) (nat_eq s.0 t) q
-            (worked_moves (is_async g t) w (rest g v h t) (rest g v h t).left refl works_t),
-            λ d i. absurd (not_started w (rest g v h t).left d works_t i))
-        | inr q ↦ inr (if_false (nat_eq s.0 t) (worked (is_async g t) w (rest g v h t).left) (rest g v h t) q)
-      ]
-  goes_or_stays g v h a (Resume s w) t run al =
-      elim (cases_Bool (nat_eq s.0 t)) [
-        | inl q ↦
-            let same : s.0 ≡ t = same_number s.0 t q in
-            let may_t : may_resume w (rest g v h t).left (ending g v h) ≡ true = subst (λ z. may_resume w (rest g v h z).left (ending g v h) ≡ true) same al.3 in
-            inl (inr (inr (w, ap (λ z. Resume (id z) w) same)),
-            moved_if (rest g v h t) (resumed g w (rest g v h t).left (rest g v h) (ending g v h)) (rest g v h t) (nat_eq s.0 t) q
-            (resumed_moves g w (rest g v h t) (rest g v h t).left (rest g v h) (ending g v h) refl may_t),
-            λ d i. absurd (not_resumed w (rest g v h t).left (ending g v h) d may_t i))
-        | inr q ↦ inr (if_false (nat_eq s.0 t) (resumed g w (rest g v h t).left (rest g v h) (ending g v h)) (rest g v h t) q)
-      ]
-  goes_or_stays g v h a x t run al = inr refl
+-- where a body stands at any time
+pub stood : (g : TaskGraph) (v : List Bool) (h : List Event) (t : ℕ) → Run g v h → Stood (rest g v h t)
+stood g v [] t run = at_stood (body g t) GoingOn
+stood g v (e ∷ h) t run = elim (goes_by g v h e.actor e.act t (stood g v h t run.0) run.1) [
+    | inl p ↦ subst Stood (sym p.1.is) (at_stood p.1.to p.1.way)
+    | inr p ↦ subst Stood (sym p) (stood g v h t run.0)
+  ]
+
+pub goes_or_stays : (g : TaskGraph) (v : List Bool) (h : List Event) (a : Actor) (x : Act) (t : ℕ) → Run g v h → Allows g v h a x → Goes g v h a x t ⊎ (rest g v (after a x h) t ≡ rest g v h t)
+goes_or_stays g v h a x t run al = goes_by g v h a x t (stood g v h t run) al

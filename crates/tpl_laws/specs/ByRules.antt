@@ -1,6 +1,6 @@
 -- Certificates by the rules without tokens or by those with tokens.
-use Rattle.std.specs.Prelude.{Bool, List}
-use Rattle.tpl_model.specs.Graph.{TaskGraph}
+use Rattle.std.specs.Prelude.{Bool, List, ◌≡◌, true}
+use Rattle.tpl_model.specs.Graph.{TaskGraph, is_early_graph}
 use Rattle.tpl_model.specs.declared.event.Event.{Event}
 use Rattle.tpl_model.specs.declared.fault.CertFault.{CertFault}
 use Rattle.tpl_model.specs.declared.rule_set.RuleSet.{RuleSet}
@@ -29,8 +29,8 @@ abbrev pub FailsFirst : RuleSet → TaskGraph → List Claim → List Tree → C
 FailsFirst WithoutTokens g claims trees fault = IsFirstFault g claims trees fault
 FailsFirst WithTokens g claims trees fault = IsFirstTokenFault g claims trees fault
 
--- where a certificate is accepted, each claim holds in each run
+-- where a certificate of a graph of versions 1 to 3 is accepted, each claim holds in each run
 abbrev pub SoundByRules : Type 0
 SoundByRules =
-    (rules : RuleSet) (g : TaskGraph) (claims : List Claim) (trees : List Tree) → IsGraph g → AcceptsBy rules g claims trees
+    (rules : RuleSet) (g : TaskGraph) (claims : List Claim) (trees : List Tree) → IsGraph g → is_early_graph g ≡ true → AcceptsBy rules g claims trees
     → (v : List Bool) (h : List Event) → Run g v h → Each (λ claim. Holds g claim v h) claims

@@ -3,7 +3,7 @@ use Rattle.std.specs.Prelude.{◌≡◌, ℕ, ◌↔◌, Bool, true, Some, None,
 use Rattle.tpl_model.specs.declared.finals.Final.{Final}
 use Rattle.tpl_model.specs.Finals.{has}
 use Rattle.tpl_model.specs.Members.{mem}
-use Rattle.tpl_model.specs.Graph.{TaskGraph, kind, IsParent}
+use Rattle.tpl_model.specs.Graph.{TaskGraph, kind, IsParent, is_early_graph}
 use Rattle.tpl_model.specs.declared.event.Event.{Event}
 use Rattle.tpl_model.specs.Rules.{Run}
 use Rattle.tpl_model.specs.Valid.{IsGraph}
@@ -74,5 +74,5 @@ VerdictIsRight =
 -- where the verdict finds no fault, each claim holds in every run
 abbrev pub VerdictIsSound : Type 0
 VerdictIsSound =
-    (g : TaskGraph) (claims : List Claim) (trees : List Tree) → IsGraph g → verdict g claims trees ≡ Ok tt
+    (g : TaskGraph) (claims : List Claim) (trees : List Tree) → IsGraph g → is_early_graph g ≡ true → verdict g claims trees ≡ Ok tt
     → (v : List Bool) (h : List Event) → Run g v h → Each (λ claim. Holds g claim v h) claims

@@ -1,5 +1,6 @@
 pub mod Soundness
 pub mod Runs
+pub mod GoingOn
 pub mod Settling
 pub mod PathLaws
 pub mod RowTests

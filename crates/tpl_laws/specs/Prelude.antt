@@ -4,6 +4,7 @@ pub use Rattle.tpl_laws.specs.ClaimTests.{HoldsIsRight, HoldsOfIsRight, proves}
 pub use Rattle.tpl_laws.specs.Decided.{BeforeIsRight, BelowInOnePass, BelowIsRight, BrokenIsRight, ChainIsRight, EndsIsRight, FirstBrokenIsRight, ParentIsRight, PastIsRight, ProvesIsRight, RunsIsRight, VerdictIsRight, VerdictIsSound}
 pub use Rattle.tpl_laws.specs.Failing.{CompleteIsNoted, FailureIsTold, JobIsNoted, OnlyRequests, RequestIsNoted, StaysComplete, or_now}
 pub use Rattle.tpl_laws.specs.Faults.{FaultIsFirst, IsFirstFault, OneFirstFault}
+pub use Rattle.tpl_laws.specs.GoingOn.{GoesOn}
 pub use Rattle.tpl_laws.specs.LeastRows.{begin_step, begun_row, blank_row, chain_after, chain_for, end_step, ended_by, ended_row, family_step, is_attached_to, is_read_after, is_reader, least_from, least_rows, shortest_chain, tasks_where, tokens_where}
 pub use Rattle.tpl_laws.specs.PathLaws.{PathLaws}
 pub use Rattle.tpl_laws.specs.RowTests.{all_in, all_may_end, before, before_by, below_by, body_may_end, chain, chain_by, continues, each_end, ends, faulted_view, implies, is_argument, is_below, is_none, may_be_canceled, may_end_as, none_complete, parent_of, past, past_by, reads, runs, runs_by, some_below, some_end, takes_over}

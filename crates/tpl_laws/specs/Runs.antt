@@ -33,12 +33,10 @@ pub record Stays (g : TaskGraph) (v : List Bool) (later h : List Event) : Type 0
 abbrev pub NothingGoesBack : Type 0
 NothingGoesBack = (g : TaskGraph) (v : List Bool) (later h : List Event) → Run g v (later ++ h) → Stays g v later h
 
--- where no body catches what its jobs throw, a job has failed just where that is the label of the task in whose body it
--- stands
+-- where no body catches an exception, a job has failed just where that is the label of the task in whose body it stands
 abbrev pub FailedByItsLabel : Type 0
 FailedByItsLabel =
-    (g : TaskGraph) (v : List Bool) (h : List Event) (site : SiteId) (t : ℕ)
-    → IsGraph g → is_early_graph g ≡ true → Run g v h → mem site.0 (sites (body g t)) ≡ true
+    (g : TaskGraph) (v : List Bool) (h : List Event) (site : SiteId) (t : ℕ) → IsGraph g → is_early_graph g ≡ true → Run g v h → mem site.0 (sites (body g t)) ≡ true
     → (failed g v h site.0 ≡ true) ↔ (label g v h t ≡ Some (WorkFailed site))
 
 -- s is k, or a source of k, or a source of one of these, and so on

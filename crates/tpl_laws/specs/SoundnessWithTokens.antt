@@ -5,7 +5,7 @@ use Rattle.tpl_model.specs.declared.finals.Final.{Final}
 use Rattle.tpl_model.specs.Finals.{has}
 use Rattle.tpl_model.specs.declared.status.Label.{Label}
 use Rattle.tpl_model.specs.Knowledge.{Fact, IsSettled, IsRequested}
-use Rattle.tpl_model.specs.Graph.{TaskGraph}
+use Rattle.tpl_model.specs.Graph.{TaskGraph, is_early_graph}
 use Rattle.tpl_model.specs.declared.event.Event.{Event}
 use Rattle.tpl_model.specs.Facts.{begun, begun_by, requested, ending}
 use Rattle.tpl_model.specs.Rules.{final, label, seen, Run, Settled, Complete}
@@ -40,12 +40,12 @@ BeginHolds g rows v (e ∷ h) =
 abbrev pub TokenRowsAreTrue : Type 0
 TokenRowsAreTrue =
     (g : TaskGraph) (l : LeafAssumed) (rows : List Row) (v : List Bool) (h : List Event)
-    → IsGraph g → ClosedWithTokens g l rows → Run g v h → LeafAgrees g l v h → TokenRowsHold g rows v h × BeginHolds g rows v h
+    → IsGraph g → is_early_graph g ≡ true → ClosedWithTokens g l rows → Run g v h → LeafAgrees g l v h → TokenRowsHold g rows v h × BeginHolds g rows v h
 
--- where a certificate of such rows is accepted, each claim holds in each run
+-- where a certificate of such rows is accepted, of a graph of versions 1 to 3, each claim holds in each run
 abbrev pub TokenSoundness : Type 0
 TokenSoundness =
-    (g : TaskGraph) (claims : List Claim) (certificate : List Tree) → IsGraph g → AcceptsWithTokens g claims certificate
+    (g : TaskGraph) (claims : List Claim) (certificate : List Tree) → IsGraph g → is_early_graph g ≡ true → AcceptsWithTokens g claims certificate
     → (v : List Bool) (h : List Event) → Run g v h → Each (λ claim. Holds g claim v h) claims
 
 -- rows that say nothing of tokens and are closed by the rules without tokens are closed by those with tokens too, whoever may win,
@@ -72,12 +72,12 @@ HasRows LeastLeaf rows = Unit {0}
 -- given for the claim is true
 abbrev pub SomeTokenLeafIsTrue : Type 0
 SomeTokenLeafIsTrue =
-    (g : TaskGraph) (claim : Claim) (tree : Tree) (v : List Bool) (h : List Event) → IsGraph g → AcceptsTokenTree g claim.body (assumed_with_tokens g claim) tree → Run g v h → IsGiven g v h (taken WithTokens g claim)
+    (g : TaskGraph) (claim : Claim) (tree : Tree) (v : List Bool) (h : List Event) → IsGraph g → is_early_graph g ≡ true → AcceptsTokenTree g claim.body (assumed_with_tokens g claim) tree → Run g v h → IsGiven g v h (taken WithTokens g claim)
     → (rows : List Row) × HasRows (written g claim.body (assumed_with_tokens g claim) tree) rows × TokenRowsHold g rows v h
 
 -- what the rows of some leaf of a tree that the rules without tokens accept say is true of each run of which the claim's given is
 -- true
 abbrev pub SomeLeafIsTrue : Type 0
 SomeLeafIsTrue =
-    (g : TaskGraph) (claim : Claim) (tree : Tree) (v : List Bool) (h : List Event) → IsGraph g → AcceptsTree g claim.body (assumed_for WithoutTokens g claim) tree → Run g v h → IsGiven g v h claim.given
+    (g : TaskGraph) (claim : Claim) (tree : Tree) (v : List Bool) (h : List Event) → IsGraph g → is_early_graph g ≡ true → AcceptsTree g claim.body (assumed_for WithoutTokens g claim) tree → Run g v h → IsGiven g v h claim.given
     → (rows : List Row) × HasRows tree rows × TokenRowsHold g rows v h

@@ -85,5 +85,5 @@ TokenVerdictIsRight =
 -- where the verdict finds no fault, each claim holds in every run
 abbrev pub TokenVerdictIsSound : Type 0
 TokenVerdictIsSound =
-    (g : TaskGraph) (claims : List Claim) (trees : List Tree) → IsGraph g → token_verdict g claims trees ≡ Ok tt
+    (g : TaskGraph) (claims : List Claim) (trees : List Tree) → IsGraph g → is_early_graph g ≡ true → token_verdict g claims trees ≡ Ok tt
     → (v : List Bool) (h : List Event) → Run g v h → Each (λ claim. Holds g claim v h) claims

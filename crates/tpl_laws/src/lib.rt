@@ -25,7 +25,7 @@ pub use links::{
     quiet_by_a_link, quiet_with_sources, requested_by_a_source, requested_through_sources,
     without_links,
 };
-pub use runs::{failed_by_its_label, is_bounded, nothing_goes_back, prefix_is_run};
+pub use runs::{failed_by_its_label, goes_on, is_bounded, nothing_goes_back, prefix_is_run};
 pub use settled::{settled_before_its_begin, settled_without_begin};
 pub use sound::{
     more_is_assumed, some_leaf_is_true, some_token_leaf_is_true, sound_by_rules, soundness,

@@ -96,7 +96,7 @@ pub data IsHead (g : TaskGraph) : ℕ → ℕ → Type 0 where
 -- parent had where it starts the parent, and so on
 pub data IsOlder (g : TaskGraph) (x : ℕ) : ℕ → Type 0 where
   brother : {t : ℕ} (p : ℕ) → IsParent g p t → IsParent g p x → started_before t x (body g p) none_started ≡ true → IsOlder g x t
-  of_parent : {t p : ℕ} → IsParent g p t → IsOlder g x p → IsOlder g x t
+  uncle : {t p : ℕ} → IsParent g p t → IsOlder g x p → IsOlder g x t
 
 -- t may await x at a place at which these children are surely started: x is no child and declared before the head of t;
 -- or a child of t that is surely started; or one that is older. So the tasks that wait for one another go round no circle

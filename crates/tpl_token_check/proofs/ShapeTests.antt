@@ -1,5 +1,5 @@
 -- Ids that are a graph's.
-use Rattle.std.proofs.Common.{◌≡◌, ℕ, ◌≤◌, Bool, true, None, List, length, ap, sym, ◌∙◌}
+use Rattle.std.proofs.Common.{◌≡◌, ℕ, ◌≤◌, Bool, true, false, None, List, length, ap, sym, ◌∙◌}
 use Rattle.std.proofs.lemmas.List.{get_or_past}
 use Rattle.tpl_model.proofs.Truths.{same_tests}
 use Rattle.tpl_model.specs.Members.{mem}
@@ -13,7 +13,7 @@ use Rattle.tpl_laws.proofs.Deciding.{of_all}
 
 -- past the last task there is a root
 pub no_kind : (g : TaskGraph) (t : ℕ) → length g.tasks ≤ t → kind g t ≡ Root
-no_kind g t le = ap (λ z. z.kind) (get_or_past g.tasks t (record { kind = Root; body = Nothing; token = None; options = 0 }) le)
+no_kind g t le = ap (λ z. z.kind) (get_or_past g.tasks t (record { kind = Root; body = Nothing; token = None; options = 0; is_async = false }) le)
 
 -- a set of tokens is part of another just where its members pass the other's test
 pub tokens_test : (r : Bool) (set allowed : TokenSet) (xs : List ℕ) (test : ℕ → Bool) → (r ≡ true → (k : ℕ) → has_token set k ≡ true → has_token allowed k ≡ true)
