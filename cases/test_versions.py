@@ -1,9 +1,10 @@
-"""Each case of a document of version 1 or 2 is asked again as one of version 3, which has rules with tokens and more members.
+"""Each case of a document of version 1 or 2 is asked again as one of version 3, which has rules with tokens and more members,
+and each case of version 3 as one of version 4, whose bodies may wait.
 
 The answer is the same, byte for byte, but for certificates that are found, and the cases of OTHERWISE. In version 3 the leaves
 of what is found have no rows, and it may have fewer splits. In OTHERWISE a certificate is found by a wider rule, where there was
 none by the narrower ones; or what only a later version has is read. Nothing that was accepted is refused, and nothing that was
-found isn't.
+found isn't. In version 4 the answer is that of version 3 in every byte, but where what only version 4 has is read.
 """
 import dataclasses
 import json
@@ -15,6 +16,13 @@ from harness import Answer, Case, Program, all_cases
 from tokens import without_rows
 
 VERSION = re.compile(rb'("version"\s*:\s*)[12](?=\s*[,}])')
+VERSION_3 = re.compile(rb'("version"\s*:\s*)3(?=\s*[,}])')
+# what only version 4 has, and what is answered where it is read
+READ_IN_4 = {
+    "an await before version 4": "unreadable: graph NotAsync task 2\n",
+    "an async task before version 4": "accepted\n",
+    "a rethrow before version 4": "unreadable: graph BadPlace task 1\n",
+}
 # these show members and certificates of version 3 beside what earlier versions say of them, and which options and limits of a
 # search decide whether a verdict is unknown
 NEW = ("version3-documents", "token-certificates", "version3-reading", "least", "verifies")
@@ -92,5 +100,28 @@ def test_case(program, old: Case, new: Case):
         assert set(old.contains) <= set(answer.stdout.splitlines())
 
 
+def fourth(text: bytes) -> bytes:
+    """The text with each version 3 changed to 4."""
+    return VERSION_3.sub(rb"\g<1>4", text)
+
+
+def third_cases():
+    """The cases of version 3, as they are and as version 4."""
+    for case in all_cases():
+        if fourth(case.stdin) != case.stdin:
+            yield pytest.param(case, dataclasses.replace(case, stdin=fourth(case.stdin)), id=str(case))
+
+
+@pytest.mark.parametrize("old, new", third_cases())
+def test_case_as_version_4(program, old: Case, new: Case):
+    answer, read = program(*new.words, given=new.stdin), READ_IN_4.get(old.name)
+    if read is not None:
+        assert old.stdout != read and answer.stdout == read
+        return
+    assert answer.exit == old.exit
+    assert old.stdout is None or answer.stdout == fourth(old.stdout.encode()).decode()
+    assert set(old.contains) <= set(answer.stdout.splitlines())
+
+
 def test_cases_that_differ_are_there():
-    assert set(OTHERWISE) <= {case.name for case in all_cases()}
+    assert {*OTHERWISE, *READ_IN_4} <= {case.name for case in all_cases()}

@@ -19,14 +19,14 @@ rest_misplaced k xs b e any =
     through_map token_number (λ s. not (nat_lt s k)) xs b any
     ∙ ap (λ c. c || list_any (λ s. not (nat_lt s k)) (map token_number xs)) (sym e ∙ ap (λ n. n == 0) (sym (length-map xs token_number)))
 
-either_bad : (d : declared.Draft) (a b : Bool) → a ≡ list_any (λ name. is_bad_name (string_bytes name)) d.inputs.items → b ≡ list_any (λ token. is_bad_name (string_bytes token.name)) d.tokens.items → (a || b) ≡ in_lists (draft_of d) why.BadName
+either_bad : (d : declared.Draft) (a b : Bool) → a ≡ list_any (λ name. is_bad_name d.scale (string_bytes name)) d.inputs.items → b ≡ list_any (λ token. is_bad_name d.scale (string_bytes token.name)) d.tokens.items → (a || b) ≡ in_lists (draft_of d) why.BadName
 either_bad d a b of_inputs of_tokens =
-    ap (λ x. x || b) (through_map string_bytes is_bad_name d.inputs.items a of_inputs)
-    ∙ ap (λ x. list_any is_bad_name (map string_bytes d.inputs.items) || x)
-    (through_map (λ (k : Token). k.name) is_bad_name (map seen.token_of d.tokens.items) b (through_map seen.token_of (λ (k : Token). is_bad_name k.name) d.tokens.items b of_tokens))
+    ap (λ x. x || b) (through_map string_bytes (is_bad_name d.scale) d.inputs.items a of_inputs)
+    ∙ ap (λ x. list_any (is_bad_name d.scale) (map string_bytes d.inputs.items) || x)
+    (through_map (λ (k : Token). k.name) (is_bad_name d.scale) (map seen.token_of d.tokens.items) b (through_map seen.token_of (λ (k : Token). is_bad_name d.scale k.name) d.tokens.items b of_tokens))
 
-pub first_bad : (d : declared.Draft) (a b : Bool) → a ≡ list_any (λ name. is_bad_name (string_bytes name)) d.inputs.items → b ≡ list_any (λ token. is_bad_name (string_bytes token.name)) d.tokens.items → a ≡ true → true ≡ in_lists (draft_of d) why.BadName
+pub first_bad : (d : declared.Draft) (a b : Bool) → a ≡ list_any (λ name. is_bad_name d.scale (string_bytes name)) d.inputs.items → b ≡ list_any (λ token. is_bad_name d.scale (string_bytes token.name)) d.tokens.items → a ≡ true → true ≡ in_lists (draft_of d) why.BadName
 first_bad d a b of_inputs of_tokens e = sym (ap (λ x. x || b) e) ∙ either_bad d a b of_inputs of_tokens
 
-pub second_bad : (d : declared.Draft) (a b : Bool) → a ≡ list_any (λ name. is_bad_name (string_bytes name)) d.inputs.items → b ≡ list_any (λ token. is_bad_name (string_bytes token.name)) d.tokens.items → a ≡ false → b ≡ in_lists (draft_of d) why.BadName
+pub second_bad : (d : declared.Draft) (a b : Bool) → a ≡ list_any (λ name. is_bad_name d.scale (string_bytes name)) d.inputs.items → b ≡ list_any (λ token. is_bad_name d.scale (string_bytes token.name)) d.tokens.items → a ≡ false → b ≡ in_lists (draft_of d) why.BadName
 second_bad d a b of_inputs of_tokens e = sym (ap (λ x. x || b) e) ∙ either_bad d a b of_inputs of_tokens

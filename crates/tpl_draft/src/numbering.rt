@@ -3,11 +3,12 @@
 ghost use Rattle.std.specs.Prelude.{◌≡◌, IfOk, map, option_map, string_bytes};
 ghost use Rattle.tpl_draft.specs.Prelude.{AreFew, line_of, place, script_in, seen, statement_in, task_number};
 ghost use Rattle.tpl_model.specs.Prelude.{statement_of};
+ghost use Rattle.tpl_model.specs.Statements.{AwaitAny, Try};
 
 use crate::draft::{DraftBody, DraftStmt};
 use crate::names::Tables;
 use std::alloc::{AllocError, Global};
-use tpl_model::{Body, InputId, LabelId, SiteId, Stmt, TaskId, TokenId};
+use tpl_model::{Body, Clauses, InputId, LabelId, SiteId, Stmt, TaskId, TokenId};
 
 /// The task of a name.
 pub fn task_id(tables: &Tables, name: &str) -> TaskId
@@ -121,36 +122,70 @@ fn number_statement(
             won,
             first,
             second,
-        } => {
-            let tasks = task_ids(alloc, tables, tasks)?;
-            let first = number_body(alloc, tables, first)?;
-            let second = number_body(alloc, tables, second)?;
-            Ok(Stmt::AwaitAny {
-                tasks,
-                won: winner_id(tables, won),
-                first,
-                second,
-            })
-        }
+        } => number_any(alloc, tables, tasks, won, first, second),
         DraftStmt::Try {
             clauses,
             list,
             canceled,
             caught,
             finally,
-        } => {
-            let list = number_body(alloc, tables, list)?;
-            let canceled = number_body(alloc, tables, canceled)?;
-            let caught = number_body(alloc, tables, caught)?;
-            let finally = number_body(alloc, tables, finally)?;
-            Ok(Stmt::Try {
-                clauses: *clauses,
-                list,
-                canceled,
-                caught,
-                finally,
-            })
-        }
+        } => number_try(alloc, tables, *clauses, list, canceled, caught, finally),
         DraftStmt::Rethrow => Ok(Stmt::Rethrow),
     }
+}
+
+/// An `await_any` with ids.
+#[cycle(number)]
+fn number_any(
+    alloc: Global,
+    tables: &Tables,
+    tasks: &[String],
+    won: &Option<String>,
+    first: &DraftBody,
+    second: &DraftBody,
+) -> Result<Stmt, AllocError>
+    requires { AreFew (seen tables.now) }
+    ensures { IfOk result (λ s. statement_of s
+        ≡ AwaitAny (map (place tables.now.tasks) (map string_bytes tasks.now))
+        (option_map (place tables.now.tasks) (option_map string_bytes won.now))
+        (script_in (seen tables.now) first.now) (script_in (seen tables.now) second.now)) }
+{
+    let tasks = task_ids(alloc, tables, tasks)?;
+    let first = number_body(alloc, tables, first)?;
+    let second = number_body(alloc, tables, second)?;
+    Ok(Stmt::AwaitAny {
+        tasks,
+        won: winner_id(tables, won),
+        first,
+        second,
+    })
+}
+
+/// A `try` with ids.
+#[cycle(number)]
+fn number_try(
+    alloc: Global,
+    tables: &Tables,
+    clauses: Clauses,
+    list: &DraftBody,
+    canceled: &DraftBody,
+    caught: &DraftBody,
+    finally: &DraftBody,
+) -> Result<Stmt, AllocError>
+    requires { AreFew (seen tables.now) }
+    ensures { IfOk result (λ s. statement_of s ≡ Try clauses (script_in (seen tables.now) list.now)
+        (script_in (seen tables.now) canceled.now) (script_in (seen tables.now) caught.now)
+        (script_in (seen tables.now) finally.now)) }
+{
+    let list = number_body(alloc, tables, list)?;
+    let canceled = number_body(alloc, tables, canceled)?;
+    let caught = number_body(alloc, tables, caught)?;
+    let finally = number_body(alloc, tables, finally)?;
+    Ok(Stmt::Try {
+        clauses,
+        list,
+        canceled,
+        caught,
+        finally,
+    })
 }

@@ -8,8 +8,8 @@ ghost use Rattle.tpl_draft.specs.Draft.{levels as level_count};
 ghost use Rattle.tpl_draft.specs.Draft as meaning;
 ghost use Rattle.tpl_draft.specs.SeenTasks.{token_of};
 
-use crate::draft::{Draft, DraftKind, DraftTask, DraftToken};
 use crate::ask::{Ask, some_in_task};
+use crate::draft::{Draft, DraftKind, DraftTask, DraftToken};
 use crate::limits::{Depth, Room, room_behind};
 use crate::refusals::{linked_to, waits_for};
 use tpl_model::{

@@ -43,7 +43,7 @@ abbrev pub AreParentsOf : List Row → List Starter → Type 0
 AreParentsOf rows starters =
     (t : ℕ) → t < length rows
     → (option_and_then (λ s. option_map task_number (parent_in s)) (slice_get starters t) ≡ parent (rows_graph rows) t)
-      × ((p : ℕ) → parent (rows_graph rows) t ≡ Some p → p < t)
+    × ((p : ℕ) → parent (rows_graph rows) t ≡ Some p → p < t)
 
 -- the body of the t-th task awaits, and isn't async
 abbrev pub awaits_plainly : TaskGraph → ℕ → Bool

@@ -29,11 +29,8 @@ fn is_early_in(statement: &Stmt) -> bool
         Stmt::If(_, first, second) | Stmt::When(_, first, second) => {
             is_early(first) && is_early(second)
         }
-        Stmt::Await(_)
-        | Stmt::Wait(_)
-        | Stmt::AwaitAny { .. }
-        | Stmt::Try { .. }
-        | Stmt::Rethrow => false,
+        Stmt::Await(_) | Stmt::Wait(_) | Stmt::AwaitAny { .. } | Stmt::Try { .. } | Stmt::Rethrow =>
+            false,
         _ => true,
     }
 }

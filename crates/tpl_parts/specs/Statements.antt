@@ -116,8 +116,8 @@ has_clause c = (c.catch_canceled || c.catch) || c.finally
 unfoldable pub try_at : (Data → Option Lines) → Data → Option Line
 try_at inner d =
     if has_clause (clauses_at d) then
-      object_of (codes "try" ∷ codes "catch_canceled" ∷ codes "catch" ∷ codes "finally" ∷ []) d
-      ((λ list canceled caught finally. Try (clauses_at d) list canceled caught finally) <$> (get (codes "try") d >>= inner) <*> else_at inner (get (codes "catch_canceled") d) <*> else_at inner (get (codes "catch") d) <*> else_at inner (get (codes "finally") d))
+    object_of (codes "try" ∷ codes "catch_canceled" ∷ codes "catch" ∷ codes "finally" ∷ []) d
+    ((λ list canceled caught finally. Try (clauses_at d) list canceled caught finally) <$> (get (codes "try") d >>= inner) <*> else_at inner (get (codes "catch_canceled") d) <*> else_at inner (get (codes "catch") d) <*> else_at inner (get (codes "finally") d))
     else None
 
 -- a statement that waits, or catches: {"await": tasks}, {"wait": tasks}, or one of those above

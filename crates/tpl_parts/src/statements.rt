@@ -43,7 +43,10 @@ fn own_name<'v, 't>(
 }
 
 #[tactic(auto, unfolding(crate::specs::Statements::bool_or_false))]
-pub(crate) fn bool_or_false<'v, 't>(value: &'v Value<'t>, name: &str) -> Result<bool, Miss<Shape<'v, 't>>>
+pub(crate) fn bool_or_false<'v, 't>(
+    value: &'v Value<'t>,
+    name: &str,
+) -> Result<bool, Miss<Shape<'v, 't>>>
     ensures gives { Gives (λ b. b) result (bool_or_false (get name.now (view value.now))) }
     ensures shape { IfErr result IsShape }
 {
@@ -254,10 +257,7 @@ fn one_name(alloc: Global, name: &str) -> Result<Vec<String>, AllocError>
 
 /// One name, or an array of one or more different names.
 #[tactic(auto, unfolding(crate::specs::Statements::names_at))]
-fn names_of<'v, 't>(
-    alloc: Global,
-    value: &'v Value<'t>,
-) -> Result<Vec<String>, Miss<Shape<'v, 't>>>
+fn names_of<'v, 't>(alloc: Global, value: &'v Value<'t>) -> Result<Vec<String>, Miss<Shape<'v, 't>>>
     ensures { Gives (λ v. map string_bytes v.items) result (names_at (view value.now)) }
 {
     match value {

@@ -162,7 +162,11 @@ fn are_different(list: &[Value<'_>]) -> bool {
         return false;
     }
     for (index, value) in list.iter().enumerate() {
-        if list.iter().take(index).any(|other| is_same_text(value, other)) {
+        if list
+            .iter()
+            .take(index)
+            .any(|other| is_same_text(value, other))
+        {
             return false;
         }
     }

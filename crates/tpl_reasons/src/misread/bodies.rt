@@ -156,9 +156,30 @@ fn misplaced(alloc: Global, line: &[Place<'_, '_>]) -> Result<Option<&'static st
     }
 }
 
+/// A statement that starts a child.
+#[derive(Clone, Copy)]
+struct StartPlace<'v> {
+    child: &'v str,
+    /// The place of the task among the tasks, and the number of the statement in its body.
+    task: usize,
+    number: usize,
+}
+
+/// The statement that starts a child, if there is one.
+fn start_of<'v>(starts: &[StartPlace<'v>], child: &str) -> Option<StartPlace<'v>> {
+    for start in starts {
+        if start.child == child {
+            return Some(*start);
+        }
+    }
+    None
+}
+
 /// The tasks above a task, and which children it may await besides its own.
 #[derive(Drop)]
 struct Family<'v> {
+    /// The statements of all tasks that start children.
+    starts: Vec<StartPlace<'v>>,
     /// The places of the task and of those above it among the tasks.
     line: Vec<usize>,
     /// The children that were surely started where it was, or where one above it was.
@@ -180,7 +201,13 @@ impl<'v, 't> Teller<'v, 't> {
     fn places(self, task: usize) -> Result<Vec<Place<'v, 't>>, AllocError> {
         let mut places = Vec::new(self.alloc);
         if let Some(task) = list_in(self.document, "tasks").get(task) {
-            add_list(&mut places, LEVELS, list_of_member(task, "body"), "body", None)?;
+            add_list(
+                &mut places,
+                LEVELS,
+                list_of_member(task, "body"),
+                "body",
+                None,
+            )?;
         }
         Ok(places)
     }
@@ -229,23 +256,31 @@ impl<'v, 't> Teller<'v, 't> {
         let mut most = 0;
         for number in 0..places.len() {
             let line = line_of(self.alloc, &places, number)?;
-            let count = line.iter().filter(|place| place.member == "finally").count();
+            let count = line
+                .iter()
+                .filter(|place| place.member == "finally")
+                .count();
             most = most.max(count);
         }
         Ok(most)
     }
 
-    /// The task that starts a child, and the number of the statement that does, if there is one before it.
-    fn starter(self, child: usize) -> Result<Option<(usize, usize)>, AllocError> {
-        let name = self.task_name(child);
-        for task in 0..child {
-            let places = self.places(task)?;
-            let is_start = |place: &Place<'_, '_>| is_start_of(place.statement, name);
-            if let Some(number) = places.iter().position(is_start) {
-                return Ok(Some((task, number)));
+    /// The statements of all tasks that start children.
+    fn starts(self) -> Result<Vec<StartPlace<'v>>, AllocError> {
+        let mut starts = Vec::new(self.alloc);
+        for task in 0..list_in(self.document, "tasks").len() {
+            for (number, place) in self.places(task)?.iter().enumerate() {
+                let child = text_or_empty(place.statement, "start");
+                if !child.is_empty() {
+                    starts.push(StartPlace {
+                        child,
+                        task,
+                        number,
+                    })?;
+                }
             }
         }
-        Ok(None)
+        Ok(starts)
     }
 
     /// Adds the children that the task has surely started at the statement of this number.
@@ -268,6 +303,7 @@ impl<'v, 't> Teller<'v, 't> {
 
     /// The tasks above a task, and which children it may await besides its own.
     fn family(self, task: usize) -> Result<Family<'v>, AllocError> {
+        let starts = self.starts()?;
         let mut line = Vec::new(self.alloc);
         let mut older = Vec::new(self.alloc);
         let mut above = Some(task);
@@ -276,15 +312,19 @@ impl<'v, 't> Teller<'v, 't> {
                 break;
             };
             line.push(next)?;
-            above = match self.starter(next)? {
-                Some((starter, number)) => {
-                    self.add_older(&mut older, starter, number)?;
-                    Some(starter)
+            above = match start_of(&starts, self.task_name(next)) {
+                Some(start) => {
+                    self.add_older(&mut older, start.task, start.number)?;
+                    Some(start.task)
                 }
                 None => None,
             };
         }
-        Ok(Family { line, older })
+        Ok(Family {
+            starts,
+            line,
+            older,
+        })
     }
 
     /// Whether the task whose family this is may await another one at the innermost place of the line.
@@ -383,7 +423,7 @@ impl<'v, 't> Teller<'v, 't> {
         let is_start = |place: &Place<'_, '_>| is_start_of(place.statement, name);
         match places.iter().position(is_start) {
             Some(start) => self.why_unsure(family, places, line, (start, name)),
-            None => self.why_no_brother(family, at),
+            None => self.why_no_brother(family, name),
         }
     }
 
@@ -410,12 +450,12 @@ impl<'v, 't> Teller<'v, 't> {
     }
 
     /// Why a child of another task may not be awaited.
-    fn why_no_brother(self, family: &Family<'v>, child: usize) -> Result<String, AllocError> {
-        let Some((starter, _)) = self.starter(child)? else {
-            return String::from_str(self.alloc, "is started nowhere before");
+    fn why_no_brother(self, family: &Family<'v>, child: &str) -> Result<String, AllocError> {
+        let Some(start) = start_of(&family.starts, child) else {
+            return String::from_str(self.alloc, "is started nowhere");
         };
-        let parent = quoted(self.alloc, self.task_name(starter))?;
-        match family.line.iter().position(|task| *task == starter) {
+        let parent = quoted(self.alloc, self.task_name(start.task))?;
+        match family.line.iter().position(|task| *task == start.task) {
             Some(above) if above > 0 => {
                 let below = family.line.get(above - 1).copied().unwrap_or(0);
                 let below = quoted(self.alloc, self.task_name(below))?;

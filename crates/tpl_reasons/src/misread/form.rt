@@ -236,9 +236,7 @@ const TASK: [&str; 9] = [
 ];
 
 /// The names of the members of a root or a child, last those that versions 3 and 4 add.
-const STARTED: [&str; 7] = [
-    "name", "kind", "body", "token", "options", "note", "async",
-];
+const STARTED: [&str; 7] = ["name", "kind", "body", "token", "options", "note", "async"];
 
 /// The names of the members of a continuation, last those that versions 3 and 4 add.
 const THEN: [&str; 8] = [

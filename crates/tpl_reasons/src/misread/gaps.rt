@@ -7,14 +7,7 @@ use std::alloc::{AllocError, Global};
 use tpl_json::{find, list_of, text_of};
 
 /// The members of a statement that are lists of statements, in the order of their numbers.
-pub(crate) const LISTS: [&str; 6] = [
-    "then",
-    "else",
-    "try",
-    "catch_canceled",
-    "catch",
-    "finally",
-];
+pub(crate) const LISTS: [&str; 6] = ["then", "else", "try", "catch_canceled", "catch", "finally"];
 
 /// The clauses of a `try` that catch.
 const HANDLERS: [&str; 2] = ["catch_canceled", "catch"];

@@ -94,7 +94,8 @@ impl Form {
             Form::Inputs => "a list of names",
             Form::Tokens => "a list of tokens",
             Form::Arguments | Form::TaskNames | Form::Chain => "a list of tasks' names",
-            Form::Awaited => "a task's name, or a list of one or more tasks' names, none of them twice",
+            Form::Awaited =>
+                "a task's name, or a list of one or more tasks' names, none of them twice",
             Form::AwaitedAny => "a list of one or more tasks' names, none of them twice",
             Form::Sources | Form::TokenNames => "a list of tokens' names",
             Form::Options => "a list of option words",

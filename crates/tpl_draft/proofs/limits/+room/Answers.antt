@@ -10,4 +10,4 @@ room_behind-room_behind_statement-requires t c =
 pub room_behind-loop-statement-preserved : goal.room_behind-loop-statement-preserved
 room_behind-loop-statement-preserved t c =
     let took = c.in_ok-left.ensures in
-    one_fits c.args.body.now _ _ c.args.levels c.args.room c.loop-statement.left c.in_ok-left.left c.statement-item.result c.loop-statement-test.true c.statement-item.is c.loop-statement.invariant took.statements took.sites took.levels
+    one_fits c.args.body.now _ _ c.args.depth c.args.room c.loop-statement.left c.in_ok-left.left c.statement-item.result c.loop-statement-test.true c.statement-item.is c.loop-statement.invariant took.statements took.sites took.levels took.finallys

@@ -10,7 +10,7 @@ pub returns-then-lists_exceed : goal.returns-then-lists_exceed
 returns-then-lists_exceed c = first_at_once (applies (draft_of c.args.draft.now) why.TooMany) (sym c.lists_exceed.ensures ∙ c.if-lists_exceed.true)
 
 pub loop-t-init : goal.loop-t-init
-loop-t-init c = within_at_first c.args.draft.now (sym c.lists_exceed.ensures ∙ c.if-lists_exceed.false)
+loop-t-init c = within_at_first c.args.draft.now _ c.most_sites.ensures.most (sym c.lists_exceed.ensures ∙ c.if-lists_exceed.false)
 
 pub returns-in-None : goal.returns-in-None
 returns-in-None c =

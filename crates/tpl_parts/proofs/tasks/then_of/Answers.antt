@@ -4,4 +4,4 @@ use Rattle.tpl_parts.proofs.tasks.then_of.Goals as goal
 
 pub returns : goal.returns
 unfolding then_at
-returns c = rw (← c.has_task_members.ensures, c.if-not-has_task_members.false, c.in_ok-antecedent.ensures.gives, c.in_ok-work.ensures, c.in_ok-antecedent-2.ensures.ok) refl
+returns c = rw (← c.has_body_members.ensures, c.if-not-has_body_members.false, c.in_ok-antecedent.ensures.gives, c.in_ok-work.ensures, c.in_ok-antecedent-2.ensures.ok) refl
