@@ -1,5 +1,8 @@
 //! How bodies end.
 
+ghost use Rattle.std.specs.Prelude.{◌≡◌};
+ghost use Rattle.tpl_model.specs.Prelude.{is_canceling, is_thrown};
+
 use crate::Label;
 
 /// How a body ended (.NET: exception handling and task cancellation in the Task Parallel Library
@@ -25,4 +28,26 @@ pub enum UnderWay {
     Throwing(Label),
     /// An OperationCanceledException. Where nothing catches it, the body ends with this outcome.
     Canceling(Outcome),
+}
+
+impl UnderWay {
+    /// An OperationCanceledException is under way.
+    pub(crate) fn is_canceling(self) -> bool
+        ensures { result ≡ is_canceling self }
+    {
+        match self {
+            UnderWay::Canceling(_) => true,
+            _ => false,
+        }
+    }
+
+    /// An exception is under way, of whatever type.
+    pub(crate) fn is_thrown(self) -> bool
+        ensures { result ≡ is_thrown self }
+    {
+        match self {
+            UnderWay::Throwing(_) | UnderWay::Canceling(_) => true,
+            _ => false,
+        }
+    }
 }
