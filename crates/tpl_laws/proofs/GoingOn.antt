@@ -34,6 +34,7 @@ use Rattle.tpl_laws.proofs.Kept.{id, after, not_some, begun_kept, running_facts}
 use Rattle.tpl_laws.proofs.Moves.{IsNext, stood}
 use Rattle.tpl_laws.proofs.Prefixes.{prefix_is_run_lem, nothing_goes_back_lem}
 use Rattle.tpl_laws.proofs.Ready.{Ready, begun_ready}
+use Rattle.tpl_laws.proofs.Started.{parent_begun}
 use Rattle.tpl_laws.proofs.SurelyStarted.{asked, next_asked, next_start}
 use Rattle.tpl_laws.specs.GoingOn.{CanGoOn, GoesOn, is_request}
 
@@ -50,19 +51,6 @@ runner_some (x ∷ h) t e = go (runs_by x.act t) refl (runner_some h t)
     go false f old =
         subst (λ z. is_some z ≡ true) (sym (if_false (runs_by x.act t) (Some x.actor) (runner h t) f))
         (old (subst (λ z. is_some z ≡ true) (if_false (begun_by x.act t) (Some x.actor) (begun h t) (begins x.act f)) e))
-
--- a started child's parent has begun
-parent_begun : (g : TaskGraph) (v : List Bool) (h : List Event) (c : ℕ) → IsGraph g → Run g v h → started g v h c ≡ true → (p : ℕ) × IsParent g p c × (is_some (begun h p) ≡ true)
-parent_begun g v [] c valid run s = true_false (sym s)
-parent_begun g v (e ∷ h) c valid run s =
-    elim (or_cases (starts_by c e.act (rest g v h)) (started g v h c) s) [
-      | inl now ↦ here e.actor e.act run.1 now
-      | inr old ↦ let q = parent_begun g v h c valid run.0 old in (q.0, q.1, begun_kept h e.actor e.act q.0 q.2)
-    ]
-  where
-    here : (a : Actor) (x : Act) → Allows g v h a x → starts_by c x (rest g v h) ≡ true → (p : ℕ) × IsParent g p c × (is_some (begun (after a x h) p) ≡ true)
-    here a (Step p) al n = (p.0, (next_start g v h p.0 c valid al.0.task run.0 n).0, begun_kept h a (Step p) p.0 (running_facts g v h a p.0 al.0).2)
-    here a x al n = true_false (sym n)
 
 -- a task that has begun has to end
 begun_ends : (g : TaskGraph) (v : List Bool) (h : List Event) (t : ℕ) → Run g v h → is_some (begun h t) ≡ true → to_end (kind g t) (started g v h t) ≡ true

@@ -5,11 +5,11 @@ use Rattle.tpl_model.specs.declared.finals.Finals.{Finals}
 use Rattle.tpl_model.specs.Finals.{has}
 use Rattle.tpl_model.specs.Graph.{TaskGraph, TaskKind, Child, kind}
 use Rattle.tpl_model.specs.declared.event.Event.{Event}
-use Rattle.tpl_model.specs.Facts.{requested, failed, started, ending}
+use Rattle.tpl_model.specs.Facts.{begun, requested, failed, started, ending}
 use Rattle.tpl_model.specs.Rules.{final, Settled, to_end, Complete}
 use Rattle.tpl_model.specs.Valid.{IsGraph}
 use Rattle.tpl_model.specs.declared.claim.Given.{Given}
-use Rattle.tpl_model.specs.declared.claim.Given.TheVariants.{Input, Quiet, Ended, Succeeds}
+use Rattle.tpl_model.specs.declared.claim.Given.TheVariants.{Input, Quiet, Ended, Succeeds, Begins, Never}
 use Rattle.tpl_model.specs.Certificate.{same}
 use Rattle.tpl_model.specs.Claims.{input, IsGiven}
 use Rattle.tpl_laws.specs.RowTests.{implies, parent_of}
@@ -60,6 +60,8 @@ is_given g v h (Input i value ∷ given) = same (input v i.0) value && is_given 
 is_given g v h (Quiet k ∷ given) = not (requested g v h k.0) && is_given g v h given
 is_given g v h (Ended t ends ∷ given) = ends_within ends (final g v h t.0) && is_given g v h given
 is_given g v h (Succeeds site ∷ given) = not (failed g v h site.0) && is_given g v h given
+is_given g v h (Begins t ∷ given) = implies (is_settled g v h t.0) (is_some (begun h t.0)) && is_given g v h given
+is_given g v h (Never t ∷ given) = not (is_some (begun h t.0)) && is_given g v h given
 
 -- the test of a task passes just where it is settled
 abbrev pub IsSettledIsRight : Type 0
@@ -71,4 +73,4 @@ IsCompleteIsRight = (g : TaskGraph) (v : List Bool) (h : List Event) → (is_com
 
 -- the test of what is given passes just where it is true of the run
 abbrev pub GivenIsRight : Type 0
-GivenIsRight = (g : TaskGraph) (v : List Bool) (h : List Event) (given : List Given) → (is_given g v h given ≡ true) ↔ IsGiven g v h given
+GivenIsRight = (g : TaskGraph) (v : List Bool) (h : List Event) (given : List Given) → IsGraph g → (is_given g v h given ≡ true) ↔ IsGiven g v h given
