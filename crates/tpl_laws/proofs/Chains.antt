@@ -20,7 +20,8 @@ use Rattle.tpl_laws.proofs.Kept.{after, not_some, running_facts, drop_facts, end
 use Rattle.tpl_model.specs.Valid.{IsGraph}
 use Rattle.tpl_laws.proofs.Execution.{passed}
 use Rattle.tpl_laws.proofs.Ready.{EndedSo, may_not_start_so, Ready, begun_ready, waiting_ready, IsBody, begun_body, drop_body}
-use Rattle.tpl_laws.proofs.Settling.{child_rules, attached_child, started_before, all_over_mem, started_by_parent}
+use Rattle.tpl_laws.proofs.Settling.{child_rules, attached_child, started_before, all_over_mem}
+use Rattle.tpl_laws.proofs.Execution.{started_by_parent}
 use Rattle.tpl_laws.proofs.Carrying.{Ends, drops, leaves, settled, how_ends, begun_task, gathered_keeps, gathered_adds, mem_those}
 use Rattle.tpl_model.specs.Certificate.{TakesOver}
 use Rattle.tpl_laws.proofs.RowsAreTrue.{rest_idle, left_verdict}

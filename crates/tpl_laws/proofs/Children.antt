@@ -51,11 +51,11 @@ mutual
   start_ids_within g c (AwaitAny xs won a b) i m =
       elim (mem_append c (starts a) (starts b) m) [ inl x ↦ start_ids g c a i.1 x | inr y ↦ start_ids g c b i.2 y ]
   start_ids_within g c (Try k list canceled caught finally) i m =
-      elim (mem_append c (starts list) (starts canceled ++ (starts caught ++ starts finally)) m) [
-        | inl x ↦ start_ids g c list i.0 x
-        | inr y ↦ elim (mem_append c (starts canceled) (starts caught ++ starts finally) y) [
-          | inl x ↦ start_ids g c canceled i.1 x
-          | inr z ↦ elim (mem_append c (starts caught) (starts finally) z) [ inl x ↦ start_ids g c caught i.2 x | inr w ↦ start_ids g c finally i.3 w ]
+      elim (mem_append c ((starts list ++ starts canceled) ++ starts caught) (starts finally) m) [
+        | inr w ↦ start_ids g c finally i.3 w
+        | inl y ↦ elim (mem_append c (starts list ++ starts canceled) (starts caught) y) [
+          | inr x ↦ start_ids g c caught i.2 x
+          | inl z ↦ elim (mem_append c (starts list) (starts canceled) z) [ inl x ↦ start_ids g c list i.0 x | inr x ↦ start_ids g c canceled i.1 x ]
         ]
       ]
   start_ids_within g c (Trying k canceled caught finally) i m = absurd i

@@ -85,7 +85,7 @@ holds_of_lem g v h (Runs t) valid =
     only_if (Complete g v h) (is_some (begun h t.0) ≡ true) (is_complete g v h) (is_some (begun h t.0)) (complete_lem g v h) (itself (is_some (begun h t.0)))
 
 pub holds_lem : HoldsIsRight
-holds_lem g claim v h valid = only_if (IsGiven g v h claim.given) (HoldsOf g v h claim.body) (is_given g v h claim.given) (holds_of g v h claim.body) (given_lem g v h claim.given) (holds_of_lem g v h claim.body valid)
+holds_lem g claim v h valid = only_if (IsGiven g v h claim.given) (HoldsOf g v h claim.body) (is_given g v h claim.given) (holds_of g v h claim.body) (given_lem g v h claim.given valid) (holds_of_lem g v h claim.body valid)
 
 -- a property that is lost at a place
 

@@ -19,6 +19,7 @@ use Rattle.tpl_model.specs.Paths.{cancellation, is_start_of, passes_start}
 use Rattle.tpl_model.specs.Rules.{IsRunning, Allows, Run, works}
 use Rattle.tpl_model.specs.Statements.{reads_nothing_in}
 use Rattle.tpl_laws.proofs.Basics.{if_true, if_false, same_number}
+use Rattle.tpl_laws.proofs.Children.{child_rules}
 use Rattle.tpl_laws.proofs.Kept.{id, after, running_facts, begun_kept}
 
 -- the statements that t has passed, the last one first
@@ -232,3 +233,8 @@ started_parent g v (e ∷ h) c run s =
     here : (a : Actor) (x : Act) → Allows g v h a x → starts_by c x (rest g v h) ≡ true → (p : ℕ) × StartedBy g v (after a x h) c p
     here a (Step p) al n = (p.0, record { parent = next_start g v h p.0 c n; begun = begun_kept h a (Step p) p.0 (running_facts g v h a p.0 al.0).2; passes = push p.0 (rest g v h p.0).left n })
     here a x al n = true_false (sym n)
+
+-- a child that is started was started by its parent
+pub started_by_parent : (g : TaskGraph) (v : List Bool) (h : List Event) (p c : ℕ) → IsGraph g → Run g v h → IsParent g p c → started g v h c ≡ true → StartedBy g v h c p
+started_by_parent g v h p c valid run par st =
+    let q = started_parent g v h c run st in subst (λ z. StartedBy g v h c z) ((child_rules g p c valid par).one_parent q.0 p q.1.parent par) q.1

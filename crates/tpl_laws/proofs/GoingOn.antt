@@ -34,35 +34,23 @@ use Rattle.tpl_laws.proofs.Kept.{id, after, not_some, begun_kept, running_facts}
 use Rattle.tpl_laws.proofs.Moves.{IsNext, stood}
 use Rattle.tpl_laws.proofs.Prefixes.{prefix_is_run_lem, nothing_goes_back_lem}
 use Rattle.tpl_laws.proofs.Ready.{Ready, begun_ready}
+use Rattle.tpl_laws.proofs.Started.{parent_begun}
 use Rattle.tpl_laws.proofs.SurelyStarted.{asked, next_asked, next_start}
 use Rattle.tpl_laws.specs.GoingOn.{CanGoOn, GoesOn, is_request}
 
 -- who has begun a task, or goes on with it
 runner_some : (h : List Event) (t : ℕ) → is_some (begun h t) ≡ true → is_some (runner h t) ≡ true
 runner_some [] t e = true_false (sym e)
-runner_some (x ∷ h) t e = go (runs_by x.act t) refl
+runner_some (x ∷ h) t e = go (runs_by x.act t) refl (runner_some h t)
   where
     begins : (a : Act) → runs_by a t ≡ false → begun_by a t ≡ false
     begins (Begin s) f = f
     begins a f = refl
-    go : (b : Bool) → runs_by x.act t ≡ b → is_some (runner (x ∷ h) t) ≡ true
-    go true f = subst (λ z. is_some z ≡ true) (sym (if_true (runs_by x.act t) (Some x.actor) (runner h t) f)) refl
-    go false f =
+    go : (b : Bool) → runs_by x.act t ≡ b → (is_some (begun h t) ≡ true → is_some (runner h t) ≡ true) → is_some (runner (x ∷ h) t) ≡ true
+    go true f old = subst (λ z. is_some z ≡ true) (sym (if_true (runs_by x.act t) (Some x.actor) (runner h t) f)) refl
+    go false f old =
         subst (λ z. is_some z ≡ true) (sym (if_false (runs_by x.act t) (Some x.actor) (runner h t) f))
-        (runner_some h t (subst (λ z. is_some z ≡ true) (if_false (begun_by x.act t) (Some x.actor) (begun h t) (begins x.act f)) e))
-
--- a started child's parent has begun
-parent_begun : (g : TaskGraph) (v : List Bool) (h : List Event) (c : ℕ) → IsGraph g → Run g v h → started g v h c ≡ true → (p : ℕ) × IsParent g p c × (is_some (begun h p) ≡ true)
-parent_begun g v [] c valid run s = true_false (sym s)
-parent_begun g v (e ∷ h) c valid run s =
-    elim (or_cases (starts_by c e.act (rest g v h)) (started g v h c) s) [
-      | inl now ↦ here e.actor e.act run.1 now
-      | inr old ↦ let q = parent_begun g v h c valid run.0 old in (q.0, q.1, begun_kept h e.actor e.act q.0 q.2)
-    ]
-  where
-    here : (a : Actor) (x : Act) → Allows g v h a x → starts_by c x (rest g v h) ≡ true → (p : ℕ) × IsParent g p c × (is_some (begun (after a x h) p) ≡ true)
-    here a (Step p) al n = (p.0, (next_start g v h p.0 c valid al.0.task run.0 n).0, begun_kept h a (Step p) p.0 (running_facts g v h a p.0 al.0).2)
-    here a x al n = true_false (sym n)
+        (old (subst (λ z. is_some z ≡ true) (if_false (begun_by x.act t) (Some x.actor) (begun h t) (begins x.act f)) e))
 
 -- a task that has begun has to end
 begun_ends : (g : TaskGraph) (v : List Bool) (h : List Event) (t : ℕ) → Run g v h → is_some (begun h t) ≡ true → to_end (kind g t) (started g v h t) ≡ true
@@ -125,7 +113,7 @@ module _ (g : TaskGraph) (v : List Bool) (h : List Event) (valid : IsGraph g) (r
   go : (a : Actor) (x : Act) → Allows g v h a x → is_request x ≡ false → CanGoOn g v h
   go a x al e = (record { actor = a; act = x }, al, e)
 
-  some_worker : Actor
+  abbrev some_worker : Actor
   some_worker = Worker (record { 0 = 1 })
 
   all_done : (xs : List ℕ) → ((x : ℕ) → mem x xs ≡ true → Over x) → (all_ended xs (ending g v h) ≡ true) ⊎ CanGoOn g v h
@@ -307,7 +295,7 @@ module _ (g : TaskGraph) (v : List Bool) (h : List Event) (valid : IsGraph g) (r
   -- what is below t where what is before t is over, one start after another
   module _ (t : ℕ) (before : Before t) (each : (c : ℕ) → IsParent g t c → Before c → Claim c) where
     child_heads : (c : ℕ) → IsParent g t c → (x y : ℕ) → is_task g x → (kind g x ≡ Child → ⊥) → IsHead g c y → x < y → Over x
-    child_heads c m x y i n (itself no) lt = absurd (no ((child_rules g t c valid m).child t m))
+    child_heads c m x y i n (itself free) lt = absurd (free ((child_rules g t c valid m).child t m))
     child_heads c m x y i n (of_parent {p = p} k par head) lt =
         before.heads x y i n (subst (λ z. IsHead g z y) ((child_rules g t c valid m).one_parent p t par m) head) lt
 
@@ -318,13 +306,13 @@ module _ (g : TaskGraph) (v : List Bool) (h : List Event) (valid : IsGraph g) (r
     kids : (h2 later : List Event) → later ++ h2 ≡ h → (c : ℕ) → IsParent g t c → started g v h2 c ≡ true → Before c
     kids [] later e c m s = true_false (sym s)
     kids (x ∷ h2) later e c m s =
+        let shorter : (later ++ x ∷ []) ++ h2 ≡ h = append_assoc later (x ∷ []) h2 ∙ e in
+        let rec = λ (y : ℕ) (par : IsParent g t y) (was : started g v h2 y ≡ true). kids h2 (later ++ x ∷ []) shorter y par was in
         elim (or_cases (starts_by c x.act (rest g v h2)) (started g v h2 c) s) [
-          | inl now ↦ record { heads = child_heads c m; older = λ y o. older y o (here x.actor x.act run2.1 now) }
-          | inr old ↦ kids h2 (later ++ x ∷ []) shorter c m old
+          | inl now ↦ record { heads = child_heads c m; older = λ y o. older shorter rec y o (here x.actor x.act run2.1 now) }
+          | inr old ↦ rec c m old
         ]
       where
-        shorter : (later ++ x ∷ []) ++ h2 ≡ h
-        shorter = append_assoc later (x ∷ []) h2 ∙ e
         run2 : Run g v (x ∷ h2)
         run2 = prefix_is_run_lem g v later (x ∷ h2) (subst (Run g v) (sym e) run)
         here : (a : Actor) (act : Act) → Allows g v h2 a act → starts_by c act (rest g v h2) ≡ true → (y : ℕ) → started_before c y (body g t) none_started ≡ true → started g v h2 y ≡ true
@@ -332,14 +320,14 @@ module _ (g : TaskGraph) (v : List Bool) (h : List Event) (valid : IsGraph g) (r
             let next = next_start g v h2 p.0 c valid al.0.task run2.0 n in
             next.1 y (subst (λ z. started_before c y (body g z) none_started ≡ true) ((child_rules g t c valid m).one_parent t p.0 m next.0) q)
         here a act al n y q = true_false (sym n)
-        older : (y : ℕ) → IsOlder g y c → ((z : ℕ) → started_before c z (body g t) none_started ≡ true → started g v h2 z ≡ true) → Over y
-        older y (brother p par other q) f =
+        older : (later ++ x ∷ []) ++ h2 ≡ h → ((y : ℕ) → IsParent g t y → started g v h2 y ≡ true → Before y) → (y : ℕ) → IsOlder g y c → ((z : ℕ) → started_before c z (body g t) none_started ≡ true → started g v h2 z ≡ true) → Over y
+        older shorter rec y (brother p par other q) f =
             let same = (child_rules g t c valid m).one_parent p t par m in
             let ours : IsParent g t y = subst (λ z. IsParent g z y) same other in
             let was : started g v h2 y ≡ true = f y (subst (λ z. started_before c y (body g z) none_started ≡ true) same q) in
-            each y ours (kids h2 (later ++ x ∷ []) shorter y ours was)
+            each y ours (rec y ours was)
             (subst (λ k. to_end k (started g v h y) ≡ true) (sym ((child_rules g t y valid ours).child t ours)) (started_later (later ++ x ∷ []) h2 shorter y was))
-        older y (uncle {p = p} par o) f = before.older y (subst (IsOlder g y) ((child_rules g t c valid m).one_parent p t par m) o)
+        older shorter rec y (uncle {p = p} par o) f = before.older y (subst (IsOlder g y) ((child_rules g t c valid m).one_parent p t par m) o)
 
     child_over : (c : ℕ) → IsParent g t c → started g v h c ≡ true → Over c
     child_over c m s =
@@ -347,7 +335,7 @@ module _ (g : TaskGraph) (v : List Bool) (h : List Event) (valid : IsGraph g) (r
 
   -- a task is over where what is before it is
   over : (n t : ℕ) → length g.tasks ≤ n + t → is_task g t → Before t → Claim t
-  over zero t le i before = absurd (omega arith)
+  over zero t le i before s = absurd (omega arith)
   over (suc n) t le i before s =
       let kid = child_over t before (λ c m b. over n c (let lt = below_later t c m in omega arith) (child_task g t c valid m) b) in
       one t i (record {
@@ -356,45 +344,44 @@ module _ (g : TaskGraph) (v : List Bool) (h : List Event) (valid : IsGraph g) (r
           | inl p ↦ before.heads x p.1.0 j p.0 p.1.1 p.1.2
           | inr q ↦ elim q [ inl p ↦ kid x p.0 p.1 | inr o ↦ before.older x o ]
         ];
-        earlier = λ x no lt not_child. before.heads x t (omega arith) no (itself not_child) lt;
+        earlier = λ x other lt not_child. before.heads x t (omega arith) other (itself not_child) lt;
       }) s
 
   -- what is before a task that has to end is over
   all_before : (n t : ℕ) → t < n → is_task g t → to_end (kind g t) (started g v h t) ≡ true → Before t
   all_before zero t lt i s = absurd (omega arith)
-  all_before (suc n) t lt i s = by_kind (kind g t) refl
+  all_before (suc n) t lt i s = by_kind (kind g t) refl (all_before n)
     where
-      root : (kind g t ≡ Child → ⊥) → Before t
-      root no = record { heads = λ x y j other head less. earlier x y j other head less; older = λ x o. none_older x o }
-        where
-          non_child : (k : TaskKind) (b : Bool) → (k ≡ Child → ⊥) → to_end k b ≡ true
-          non_child Child b no = absurd (no refl)
-          non_child Root b no = refl
-          non_child (Continues a) b no = refl
-          non_child (WhenAll args) b no = refl
-          non_child (WhenAny args) b no = refl
-          earlier : (x y : ℕ) → is_task g x → (kind g x ≡ Child → ⊥) → IsHead g t y → x < y → Over x
-          earlier x y j other (itself p) less =
-              let e = non_child (kind g x) (started g v h x) other in
-              over (length g.tasks) x (omega arith) j (all_before n x (omega arith) j e) e
-          earlier x y j other (of_parent k par head) less = absurd (no k)
-          none_older : (x : ℕ) → IsOlder g x t → Over x
-          none_older x (brother p par other q) = absurd (no ((child_rules g p t valid par).child p par))
-          none_older x (uncle {p = p} par o) = absurd (no ((child_rules g p t valid par).child p par))
-      kid : kind g t ≡ Child → Before t
-      kid e =
+      non_child : (k : TaskKind) (b : Bool) → (k ≡ Child → ⊥) → to_end k b ≡ true
+      non_child Child b other = absurd (other refl)
+      non_child Root b other = refl
+      non_child (Continues a) b other = refl
+      non_child (WhenAll args) b other = refl
+      non_child (WhenAny args) b other = refl
+      earlier : (kind g t ≡ Child → ⊥) → ((x : ℕ) → x < n → is_task g x → to_end (kind g x) (started g v h x) ≡ true → Before x) → (x y : ℕ) → is_task g x → (kind g x ≡ Child → ⊥) → IsHead g t y → x < y → Over x
+      earlier free rec x y j other (itself p) less =
+          let e = non_child (kind g x) (started g v h x) other in
+          over (length g.tasks) x (omega arith) j (rec x (omega arith) j e) e
+      earlier free rec x y j other (of_parent k par head) less = absurd (free k)
+      none_older : (kind g t ≡ Child → ⊥) → (x : ℕ) → IsOlder g x t → Over x
+      none_older free x (brother p par other q) = absurd (free ((child_rules g p t valid par).child p par))
+      none_older free x (uncle {p = p} par o) = absurd (free ((child_rules g p t valid par).child p par))
+      root : (kind g t ≡ Child → ⊥) → ((x : ℕ) → x < n → is_task g x → to_end (kind g x) (started g v h x) ≡ true → Before x) → Before t
+      root free rec = record { heads = λ x y j other head less. earlier free rec x y j other head less; older = λ x o. none_older free x o }
+      kid : kind g t ≡ Child → ((x : ℕ) → x < n → is_task g x → to_end (kind g x) (started g v h x) ≡ true → Before x) → Before t
+      kid e rec =
           let st : started g v h t ≡ true = subst (λ k. to_end k (started g v h t) ≡ true) e s in
           let p = parent_begun g v h t valid run st in
-          let lt2 = below_later p.0 t p.1 in
+          let lt2 : p.0 < t = below_later p.0 t p.1 in
           let j = parent_task g p.0 t p.1 in
-          kids p.0 (all_before n p.0 (omega arith) j (begun_ends g v h p.0 run p.2))
+          kids p.0 (rec p.0 (omega arith) j (begun_ends g v h p.0 run p.2))
           (λ c m b. over (length g.tasks) c (omega arith) (child_task g p.0 c valid m) b) h [] refl t p.1 st
-      by_kind : (k : TaskKind) → kind g t ≡ k → Before t
-      by_kind Child e = kid e
-      by_kind Root e = root (λ c. absurd (let f : Child ≡ Root = sym c ∙ e in cc))
-      by_kind (Continues a) e = root (λ c. absurd (let f : Child ≡ Continues a = sym c ∙ e in cc))
-      by_kind (WhenAll args) e = root (λ c. absurd (let f : Child ≡ WhenAll args = sym c ∙ e in cc))
-      by_kind (WhenAny args) e = root (λ c. absurd (let f : Child ≡ WhenAny args = sym c ∙ e in cc))
+      by_kind : (k : TaskKind) → kind g t ≡ k → ((x : ℕ) → x < n → is_task g x → to_end (kind g x) (started g v h x) ≡ true → Before x) → Before t
+      by_kind Child e rec = kid e rec
+      by_kind Root e rec = root (λ c. absurd (let f : Child ≡ Root = sym c ∙ e in cc)) rec
+      by_kind (Continues a) e rec = root (λ c. absurd (let f : Child ≡ Continues a = sym c ∙ e in cc)) rec
+      by_kind (WhenAll args) e rec = root (λ c. absurd (let f : Child ≡ WhenAll args = sym c ∙ e in cc)) rec
+      by_kind (WhenAny args) e rec = root (λ c. absurd (let f : Child ≡ WhenAny args = sym c ∙ e in cc)) rec
 
   claim : (t : ℕ) → is_task g t → Claim t
   claim t i s = over (length g.tasks) t (omega arith) i (all_before (suc t) t (omega arith) i s) s
@@ -406,8 +393,8 @@ module _ (g : TaskGraph) (v : List Bool) (h : List Event) (valid : IsGraph g) (r
       elim (all_claims n (omega arith)) [
         | inr c ↦ inr c
         | inl f ↦ elim (cases_Bool (to_end (kind g n) (started g v h n))) [
-          | inr no ↦ inl (λ t lt s. last t lt s f (λ e. true_false (sym e ∙ no)))
-          | inl yes ↦ elim (claim n (omega arith) yes) [ inr c ↦ inr c | inl e ↦ inl (λ t lt s. last t lt s f (λ q. e)) ]
+          | inr not_so ↦ inl (λ t lt s. last t lt s f (λ e. true_false (sym e ∙ not_so)))
+          | inl so ↦ elim (claim n (omega arith) so) [ inr c ↦ inr c | inl e ↦ inl (λ t lt s. last t lt s f (λ q. e)) ]
         ]
       ]
     where

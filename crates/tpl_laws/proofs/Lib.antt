@@ -4,6 +4,7 @@ pub mod Kept
 pub mod Moves
 pub mod Children
 pub mod SurelyStarted
+pub mod Started
 pub mod Execution
 pub mod Ready
 pub mod Begins

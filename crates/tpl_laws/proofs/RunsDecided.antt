@@ -9,15 +9,15 @@ use Rattle.tpl_model.specs.declared.finals.Finals.{Finals}
 use Rattle.tpl_model.specs.Finals.{has}
 use Rattle.tpl_model.specs.Graph.{TaskGraph, TaskKind, Child, kind}
 use Rattle.tpl_model.specs.declared.event.Event.{Event}
-use Rattle.tpl_model.specs.Facts.{requested, failed, started, ending}
+use Rattle.tpl_model.specs.Facts.{begun, requested, failed, started, ending}
 use Rattle.tpl_model.specs.Rules.{final, Settled, ended, unstarted, to_end}
 use Rattle.tpl_model.specs.Valid.{IsGraph}
 use Rattle.tpl_model.specs.declared.claim.Given.{Given}
-use Rattle.tpl_model.specs.declared.claim.Given.TheVariants.{Input, Quiet, Ended, Succeeds}
+use Rattle.tpl_model.specs.declared.claim.Given.TheVariants.{Input, Quiet, Ended, Succeeds, Begins, Never}
 use Rattle.tpl_model.specs.Certificate.{same}
 use Rattle.tpl_model.specs.Claims.{input, IsGiven}
-use Rattle.tpl_laws.specs.RowTests.{parent_of}
-use Rattle.tpl_laws.specs.RunTests.{is_child, some_parent, settled_within, all_below, has_ended, is_given, ends_within, IsSettledIsRight, IsCompleteIsRight}
+use Rattle.tpl_laws.specs.RowTests.{implies, parent_of}
+use Rattle.tpl_laws.specs.RunTests.{is_child, some_parent, settled_within, all_below, has_ended, is_given, is_settled, ends_within, IsSettledIsRight, IsCompleteIsRight}
 use Rattle.tpl_laws.proofs.Parents.{parent_is, the_parent, parent_before}
 
 pub of_child : (k : TaskKind) → is_child k ≡ true → k ≡ Child
@@ -68,9 +68,13 @@ pub ends_in : (ends : Finals) (o : Option Final) → Decides (ends_within ends o
 ends_in ends None = (λ e f x. absurd (cc), λ x. refl)
 ends_in ends (Some f) = (λ e x same. ap (has ends) (let it : x ≡ f = cc in it) ∙ e, λ x. x f refl)
 
-pub given_lem : (g : TaskGraph) (v : List Bool) (h : List Event) (given : List Given) → Decides (is_given g v h given) (IsGiven g v h given)
-given_lem g v h [] = (λ e. tt, λ e. refl)
-given_lem g v h (Input i value ∷ given) = Decides-and (same (input v i.0) value) (is_given g v h given) (equal (input v i.0) value) (given_lem g v h given)
-given_lem g v h (Quiet k ∷ given) = Decides-and (not (requested g v h k.0)) (is_given g v h given) (opposite (requested g v h k.0)) (given_lem g v h given)
-given_lem g v h (Ended t ends ∷ given) = Decides-and (ends_within ends (final g v h t.0)) (is_given g v h given) (ends_in ends (final g v h t.0)) (given_lem g v h given)
-given_lem g v h (Succeeds site ∷ given) = Decides-and (not (failed g v h site.0)) (is_given g v h given) (opposite (failed g v h site.0)) (given_lem g v h given)
+pub given_lem : (g : TaskGraph) (v : List Bool) (h : List Event) (given : List Given) → IsGraph g → Decides (is_given g v h given) (IsGiven g v h given)
+given_lem g v h [] valid = (λ e. tt, λ e. refl)
+given_lem g v h (Input i value ∷ given) valid = Decides-and (same (input v i.0) value) (is_given g v h given) (equal (input v i.0) value) (given_lem g v h given valid)
+given_lem g v h (Quiet k ∷ given) valid = Decides-and (not (requested g v h k.0)) (is_given g v h given) (opposite (requested g v h k.0)) (given_lem g v h given valid)
+given_lem g v h (Ended t ends ∷ given) valid = Decides-and (ends_within ends (final g v h t.0)) (is_given g v h given) (ends_in ends (final g v h t.0)) (given_lem g v h given valid)
+given_lem g v h (Succeeds site ∷ given) valid = Decides-and (not (failed g v h site.0)) (is_given g v h given) (opposite (failed g v h site.0)) (given_lem g v h given valid)
+given_lem g v h (Begins t ∷ given) valid =
+    Decides-and (implies (is_settled g v h t.0) (is_some (begun h t.0))) (is_given g v h given)
+    (only_if (Settled g v h t.0) (is_some (begun h t.0) ≡ true) (is_settled g v h t.0) (is_some (begun h t.0)) (settled_lem g v h t.0 valid) (itself (is_some (begun h t.0)))) (given_lem g v h given valid)
+given_lem g v h (Never t ∷ given) valid = Decides-and (not (is_some (begun h t.0))) (is_given g v h given) (opposite (is_some (begun h t.0))) (given_lem g v h given valid)

@@ -14,7 +14,8 @@ use Rattle.tpl_laws.proofs.Basics.{the_some, is_some_of, same_number}
 use Rattle.tpl_laws.proofs.Kept.{after, running_facts, drop_facts, ending_new, ended_kept}
 use Rattle.tpl_model.specs.Options.{attached_to_parent, deny_child_attach}
 use Rattle.tpl_model.specs.Certificate.{IsBelow, child, deeper}
-use Rattle.tpl_laws.proofs.Execution.{StartedBy, started_parent, next_start}
+use Rattle.tpl_laws.proofs.SurelyStarted.{next_start}
+use Rattle.tpl_laws.proofs.Started.{started_by_begun}
 pub use Rattle.tpl_laws.proofs.Children.{beyond, no_task, parent_task, other_task, continues_task, all_task, child_task, child_rules, has_subject_of, mem_filter, filter_mem, attached_child}
 use Rattle.tpl_laws.proofs.Ready.{Ready, begun_ready, IsBody, begun_body}
 use Rattle.std.proofs.Common.{◌≤◌, filter}
@@ -32,7 +33,7 @@ settled_idle g v h a t run (unstarted k s par sp) r =
 -- no child of a settled task is started any more
 still_unstarted : (g : TaskGraph) (v : List Bool) (h : List Event) (a : Actor) (x : Act) (c p : ℕ) → IsGraph g → Run g v h → Allows g v h a x → IsParent g p c → Settled g v h p → starts_by c x (rest g v h) ≡ true → ⊥
 still_unstarted g v h a (Step q) c p valid run al par sp e =
-    let same = (child_rules g p c valid par).one_parent q.0 p (next_start g v h q.0 c e) par in
+    let same = (child_rules g p c valid par).one_parent q.0 p (next_start g v h q.0 c valid al.0.task run e).0 par in
     settled_idle g v h a p run sp (subst (λ z. IsRunning g v h a z) same al.0)
 still_unstarted g v h a x c p valid run al par sp e = true_false (sym e)
 
@@ -67,11 +68,6 @@ all_over_mem (d ∷ cs) st en c o m s =
     not_true_false true e = true_false (sym e)
     not_true_false false e = refl
 
--- a child that is started was started by its parent
-pub started_by_parent : (g : TaskGraph) (v : List Bool) (h : List Event) (p c : ℕ) → IsGraph g → Run g v h → IsParent g p c → started g v h c ≡ true → StartedBy g v h c p
-started_by_parent g v h p c valid run par st =
-    let q = started_parent g v h c run st in subst (λ z. StartedBy g v h c z) ((child_rules g p c valid par).one_parent q.0 p q.1.parent par) q.1
-
 -- a started attached child of a task that has ended has ended
 pub children_over : (g : TaskGraph) (v : List Bool) (h : List Event) (p c : ℕ) → IsGraph g → Run g v h → is_some (ending g v h p) ≡ true → mem c (attached g p) ≡ true → started g v h c ≡ true → is_some (ending g v h c) ≡ true
 children_over g v [] p c valid run e m s = true_false (sym s)
@@ -85,9 +81,9 @@ children_over g v (e ∷ h) p c valid run n m s = ended_kept g v h e.actor e.act
     by_act a (Close q) al en st = all_over_mem (attached g p) (started g v h) (ending g v h) c (subst (λ z. all_over (attached g z) (started g v h) (ending g v h) ≡ true) (same_number q.0 p en) al.2) m st
     by_act a (Drop q) al en st =
         let d = drop_facts g v h q.0 al.1 in
-        true_false (sym (started_by_parent g v h p c valid run.0 par st).begun ∙ ap is_some (subst (λ z. begun h z ≡ None) (same_number q.0 p en) d.2))
+        true_false (sym (started_by_begun g v h p c valid run.0 par st) ∙ ap is_some (subst (λ z. begun h z ≡ None) (same_number q.0 p en) d.2))
     by_act a (Settle q) al en st =
-        absurd (no_settle (kind g p) (begun_body g v h p run.0 (started_by_parent g v h p c valid run.0 par st).begun) (subst (λ z. can_settle (kind g z) (ending g v h) ≡ true) (same_number q.0 p en) al.2))
+        absurd (no_settle (kind g p) (begun_body g v h p run.0 (started_by_begun g v h p c valid run.0 par st)) (subst (λ z. can_settle (kind g z) (ending g v h) ≡ true) (same_number q.0 p en) al.2))
       where
         no_settle : (k : TaskKind) → IsBody k → can_settle k (ending g v h) ≡ true → ⊥
         no_settle (WhenAll args) b c = b
@@ -117,7 +113,7 @@ child_settled g v h p c valid run m sp =
     by_started : started g v h c ≡ true → Settled g v h p → Settled g v h c
     by_started s (ended e) = ended (children_over g v h p c valid run e m s)
     by_started s (unstarted k u q sq) =
-        let b = (started_by_parent g v h p c valid run par s).begun in
+        let b = started_by_begun g v h p c valid run par s in
         let ready : started g v h p ≡ true = subst (λ z. Ready g v h p z) k (begun_ready g v h p run b) in
         true_false (sym ready ∙ u)
 

@@ -67,21 +67,24 @@ count_append d (x ∷ xs) ys =
     let c = count_append d xs ys in
     omega arith
 
+count_cons : (d x : ℕ) (xs : List ℕ) (b : Bool) → nat_eq d x ≡ b → count_by (nat_eq d) (x ∷ xs) ≡ cond b 1 0 + count_by (nat_eq d) xs
+count_cons d x xs b e = sum_by-cons (λ y. cond (nat_eq d y) 1 0) x xs ∙ ap (λ z. cond z 1 0 + count_by (nat_eq d) xs) e
+
 count_some : (d : ℕ) (xs : List ℕ) → mem d xs ≡ true → 1 ≤ count_by (nat_eq d) xs
 count_some d [] m = true_false (sym m)
-count_some d (x ∷ xs) m = go (nat_eq d x) refl m
+count_some d (x ∷ xs) m = go (nat_eq d x) refl m (count_some d xs)
   where
-    go : (b : Bool) → nat_eq d x ≡ b → (b || mem d xs) ≡ true → 1 ≤ count_by (nat_eq d) (x ∷ xs)
-    go true e f = let a = sum_by-cons (λ y. cond (nat_eq d y) 1 0) x xs in let c = ap (λ b. cond b 1 0) e in omega arith
-    go false e f = let a = sum_by-cons (λ y. cond (nat_eq d y) 1 0) x xs in let c = count_some d xs f in omega arith
+    go : (b : Bool) → nat_eq d x ≡ b → (b || mem d xs) ≡ true → (mem d xs ≡ true → 1 ≤ count_by (nat_eq d) xs) → 1 ≤ count_by (nat_eq d) (x ∷ xs)
+    go true e f more = let a : count_by (nat_eq d) (x ∷ xs) ≡ 1 + count_by (nat_eq d) xs = count_cons d x xs true e in omega arith
+    go false e f more = let a : count_by (nat_eq d) (x ∷ xs) ≡ 0 + count_by (nat_eq d) xs = count_cons d x xs false e in let c = more f in omega arith
 
 count_none : (d : ℕ) (xs : List ℕ) → mem d xs ≡ false → count_by (nat_eq d) xs ≡ 0
 count_none d [] m = refl
-count_none d (x ∷ xs) m = go (nat_eq d x) refl m
+count_none d (x ∷ xs) m = go (nat_eq d x) refl m (count_none d xs)
   where
-    go : (b : Bool) → nat_eq d x ≡ b → (b || mem d xs) ≡ false → count_by (nat_eq d) (x ∷ xs) ≡ 0
-    go true e f = true_false f
-    go false e f = let a = sum_by-cons (λ y. cond (nat_eq d y) 1 0) x xs in let b = ap (λ b. cond b 1 0) e in let c = count_none d xs f in omega arith
+    go : (b : Bool) → nat_eq d x ≡ b → (b || mem d xs) ≡ false → (mem d xs ≡ false → count_by (nat_eq d) xs ≡ 0) → count_by (nat_eq d) (x ∷ xs) ≡ 0
+    go true e f more = true_false f
+    go false e f more = let a : count_by (nat_eq d) (x ∷ xs) ≡ 0 + count_by (nat_eq d) xs = count_cons d x xs false e in let c = more f in omega arith
 
 -- what is started in one part isn't in the other
 not_there : (d : ℕ) (xs ys : List ℕ) → count_by (nat_eq d) (xs ++ ys) ≤ 1 → mem d xs ≡ true → mem d ys ≡ false
@@ -157,15 +160,27 @@ mutual
       let n = neither d (starts a) (starts b) m in
       both_false (started_before d x a before) (started_before d x b before) (silent a before d x n.0) (silent b before d x n.1)
   silent_in (Try c list canceled caught finally) before d x m =
-      let n = neither d (starts list) (starts canceled ++ (starts caught ++ starts finally)) m in
-      let o = neither d (starts canceled) (starts caught ++ starts finally) n.1 in
-      let p = neither d (starts caught) (starts finally) o.1 in
-      both_false (started_before d x list before) (started_before d x canceled before || (started_before d x caught before || started_before d x finally before)) (silent list before d x n.0)
-      (both_false (started_before d x canceled before) (started_before d x caught before || started_before d x finally before) (silent canceled before d x o.0)
-      (both_false (started_before d x caught before) (started_before d x finally before) (silent caught before d x p.0) (silent finally before d x p.1)))
+      let n = neither d ((starts list ++ starts canceled) ++ starts caught) (starts finally) m in
+      let o = neither d (starts list ++ starts canceled) (starts caught) n.0 in
+      let p = neither d (starts list) (starts canceled) o.0 in
+      both_false ((started_before d x list before || started_before d x canceled before) || started_before d x caught before) (started_before d x finally before)
+      (both_false (started_before d x list before || started_before d x canceled before) (started_before d x caught before)
+      (both_false (started_before d x list before) (started_before d x canceled before) (silent list before d x p.0) (silent canceled before d x p.1))
+      (silent caught before d x o.1))
+      (silent finally before d x n.1)
   silent_in s before d x m = refl
 
 module _ (g : TaskGraph) (t : ℕ) where
+  two : (a b : Statements) (k f : Bool) (before : ℕ → Bool) → (are_placed k f a && are_placed k f b) ≡ true → Piece g t (starts a ++ starts b) (λ d x. started_before d x a before || started_before d x b before)
+      → (are_placed k f a ≡ true → Piece g t (starts a) (λ d x. started_before d x a before) → AllIn (asked g t) k a before)
+      → (are_placed k f b ≡ true → Piece g t (starts b) (λ d x. started_before d x b before) → AllIn (asked g t) k b before)
+      → AllIn (asked g t) k a before × AllIn (asked g t) k b before
+  two a b k f before p piece one other =
+      let both = and_parts (are_placed k f a) (are_placed k f b) p in (
+        one both.0 (first_piece g t (starts a) (starts b) (λ d x. started_before d x a before) (λ d x. started_before d x b before) (silent b before) piece),
+        other both.1 (second_piece g t (starts a) (starts b) (λ d x. started_before d x a before) (λ d x. started_before d x b before) (silent a before) piece),
+      )
+
   mutual
     -- the rules of a valid graph say so of its bodies
     base_in : (b : Statements) (k f : Bool) (before : ℕ → Bool) → IdsOf g b → are_placed k f b ≡ true → MayAwaitIn g t b before → Piece g t (starts b) (λ d x. started_before d x b before) → AllIn (asked g t) k b before
@@ -176,14 +191,6 @@ module _ (g : TaskGraph) (t : ℕ) where
           base_in rest k f (started_past s before) i.1 both.1 m.1 (second_piece g t (starts_of s) (starts rest) (λ d x. started_before_in d x s before) (λ d x. started_before d x rest (started_past s before)) (silent_in s before) piece),
         )
 
-    base_two : (a b : Statements) (k f : Bool) (before : ℕ → Bool) → IdsOf g a → IdsOf g b → (are_placed k f a && are_placed k f b) ≡ true → MayAwaitIn g t a before → MayAwaitIn g t b before
-        → Piece g t (starts a ++ starts b) (λ d x. started_before d x a before || started_before d x b before) → AllIn (asked g t) k a before × AllIn (asked g t) k b before
-    base_two a b k f before i j p m n piece =
-        let both = and_parts (are_placed k f a) (are_placed k f b) p in (
-          base_in a k f before i both.0 m (first_piece g t (starts a) (starts b) (λ d x. started_before d x a before) (λ d x. started_before d x b before) (silent b before) piece),
-          base_in b k f before j both.1 n (second_piece g t (starts a) (starts b) (λ d x. started_before d x a before) (λ d x. started_before d x b before) (silent a before) piece),
-        )
-
     base_at : (s : Statement) (k f : Bool) (before : ℕ → Bool) → IdsWithin g s → is_placed k f s ≡ true → MayAwaitAt g t s before → Piece g t (starts_of s) (λ d x. started_before_in d x s before) → AllAt (asked g t) k s before
     base_at (Await xs) k f before i p m piece = (i, m)
     base_at (Wait xs) k f before i p m piece = (i, m)
@@ -192,30 +199,31 @@ module _ (g : TaskGraph) (t : ℕ) where
           piece.ours c (mem_here c []),
           λ x e. (and_parts (nat_eq c c) (before x) (piece.sure c x (mem_here c []) e)).1,
         )
-    base_at (If n a b) k f before i p m piece = base_two a b k f before i.1 i.2 p m.0 m.1 piece
-    base_at (When x a b) k f before i p m piece = base_two a b k f before i.0 i.1 p m.0 m.1 piece
+    base_at (If n a b) k f before i p m piece = two a b k f before p piece (λ q z. base_in a k f before i.1 q m.0 z) (λ q z. base_in b k f before i.2 q m.1 z)
+    base_at (When x a b) k f before i p m piece = two a b k f before p piece (λ q z. base_in a k f before i.0 q m.0 z) (λ q z. base_in b k f before i.1 q m.1 z)
     base_at (AwaitAny xs won a b) k f before i p m piece =
-        let placed = and_parts (is_among won xs) (are_placed k f a && are_placed k f b) p in
-        let both = base_two a b k f before i.1 i.2 placed.1 m.1 m.2 piece in
+        let placed = and_parts (is_among won xs && are_placed k f a) (are_placed k f b) p in
+        let first = and_parts (is_among won xs) (are_placed k f a) placed.0 in
+        let both = two a b k f before (and_from (are_placed k f a) (are_placed k f b) first.1 placed.1) piece (λ q z. base_in a k f before i.1 q m.1 z) (λ q z. base_in b k f before i.2 q m.2 z) in
         ((i.0, m.0), both.0, both.1)
     base_at (Try c list canceled caught finally) k f before i p m piece =
-        let one = and_parts (are_placed k f list) (are_placed true f canceled && (are_placed true f caught && are_placed false true finally)) p in
-        let two = and_parts (are_placed true f canceled) (are_placed true f caught && are_placed false true finally) one.1 in
-        let three = and_parts (are_placed true f caught) (are_placed false true finally) two.1 in
-        let before_list : ℕ → ℕ → Bool = λ d x. started_before d x list before in
-        let before_canceled : ℕ → ℕ → Bool = λ d x. started_before d x canceled before in
-        let before_caught : ℕ → ℕ → Bool = λ d x. started_before d x caught before in
-        let before_finally : ℕ → ℕ → Bool = λ d x. started_before d x finally before in
-        let silent_two : Silent (starts caught ++ starts finally) (λ d x. before_caught d x || before_finally d x) =
-            λ d x e. let n = neither d (starts caught) (starts finally) e in both_false (before_caught d x) (before_finally d x) (silent caught before d x n.0) (silent finally before d x n.1) in
-        let silent_three : Silent (starts canceled ++ (starts caught ++ starts finally)) (λ d x. before_canceled d x || (before_caught d x || before_finally d x)) =
-            λ d x e. let n = neither d (starts canceled) (starts caught ++ starts finally) e in both_false (before_canceled d x) (before_caught d x || before_finally d x) (silent canceled before d x n.0) (silent_two d x n.1) in
-        let later = second_piece g t (starts list) (starts canceled ++ (starts caught ++ starts finally)) before_list (λ d x. before_canceled d x || (before_caught d x || before_finally d x)) (silent list before) piece in
-        let last = second_piece g t (starts canceled) (starts caught ++ starts finally) before_canceled (λ d x. before_caught d x || before_finally d x) (silent canceled before) later in (
-          base_in list k f before i.0 one.0 m.0 (first_piece g t (starts list) (starts canceled ++ (starts caught ++ starts finally)) before_list (λ d x. before_canceled d x || (before_caught d x || before_finally d x)) silent_three piece),
-          base_in canceled true f before i.1 two.0 m.1 (first_piece g t (starts canceled) (starts caught ++ starts finally) before_canceled (λ d x. before_caught d x || before_finally d x) silent_two later),
-          base_in caught true f before i.2 three.0 m.2 (first_piece g t (starts caught) (starts finally) before_caught before_finally (silent finally before) last),
-          base_in finally false true before i.3 three.1 m.3 (second_piece g t (starts caught) (starts finally) before_caught before_finally (silent caught before) last),
+        let one = and_parts ((are_placed k f list && are_placed true f canceled) && are_placed true f caught) (are_placed false true finally) p in
+        let two = and_parts (are_placed k f list && are_placed true f canceled) (are_placed true f caught) one.0 in
+        let three = and_parts (are_placed k f list) (are_placed true f canceled) two.0 in
+        let in_list : ℕ → ℕ → Bool = λ d x. started_before d x list before in
+        let in_canceled : ℕ → ℕ → Bool = λ d x. started_before d x canceled before in
+        let in_caught : ℕ → ℕ → Bool = λ d x. started_before d x caught before in
+        let in_finally : ℕ → ℕ → Bool = λ d x. started_before d x finally before in
+        let silent_two : Silent (starts list ++ starts canceled) (λ d x. in_list d x || in_canceled d x) =
+            λ d x e. let n = neither d (starts list) (starts canceled) e in both_false (in_list d x) (in_canceled d x) (silent list before d x n.0) (silent canceled before d x n.1) in
+        let silent_three : Silent ((starts list ++ starts canceled) ++ starts caught) (λ d x. (in_list d x || in_canceled d x) || in_caught d x) =
+            λ d x e. let n = neither d (starts list ++ starts canceled) (starts caught) e in both_false (in_list d x || in_canceled d x) (in_caught d x) (silent_two d x n.0) (silent caught before d x n.1) in
+        let early = first_piece g t ((starts list ++ starts canceled) ++ starts caught) (starts finally) (λ d x. (in_list d x || in_canceled d x) || in_caught d x) in_finally (silent finally before) piece in
+        let first = first_piece g t (starts list ++ starts canceled) (starts caught) (λ d x. in_list d x || in_canceled d x) in_caught (silent caught before) early in (
+          base_in list k f before i.0 three.0 m.0 (first_piece g t (starts list) (starts canceled) in_list in_canceled (silent canceled before) first),
+          base_in canceled true f before i.1 three.1 m.1 (second_piece g t (starts list) (starts canceled) in_list in_canceled (silent list before) first),
+          base_in caught true f before i.2 two.1 m.2 (second_piece g t (starts list ++ starts canceled) (starts caught) (λ d x. in_list d x || in_canceled d x) in_caught silent_two early),
+          base_in finally false true before i.3 one.1 m.3 (second_piece g t ((starts list ++ starts canceled) ++ starts caught) (starts finally) (λ d x. (in_list d x || in_canceled d x) || in_caught d x) in_finally silent_three piece),
         )
     base_at (Trying c canceled caught finally) k f before i p m piece = absurd i
     base_at (Caught thrown finally) k f before i p m piece = absurd i
@@ -223,16 +231,16 @@ module _ (g : TaskGraph) (t : ℕ) where
     base_at s k f before i p m piece = tt
 
   -- what is surely started behind a statement has been started where it is passed
-  past_now : (s : Statement) (more : Statements) (now then : ℕ → Bool) → goes_on s ≡ true → Within now then → ((d : ℕ) → is_start d (s ⨾ more) ≡ true → then d ≡ true) → Within (started_past s now) then
-  past_now (Start d) more now then o w f c e = elim (or_cases (nat_eq d c) (now c) e) [ inl p ↦ f c p | inr q ↦ w c q ]
-  past_now Return more now then o w f c e = true_false (sym o)
-  past_now (Throw l) more now then o w f c e = true_false (sym o)
-  past_now (If i a b) more now then o w f c e = true_false (sym o)
-  past_now (When x a b) more now then o w f c e = true_false (sym o)
-  past_now (AwaitAny xs won a b) more now then o w f c e = true_false (sym o)
-  past_now (Try k list canceled caught finally) more now then o w f c e = true_false (sym o)
-  past_now Rethrow more now then o w f c e = true_false (sym o)
-  past_now s more now then o w f c e = w c e
+  past_now : (s : Statement) (more : Statements) (now next : ℕ → Bool) → goes_on s ≡ true → Within now next → ((d : ℕ) → is_start d (s ⨾ more) ≡ true → next d ≡ true) → Within (started_past s now) next
+  past_now (Start d) more now next o w f c e = elim (or_cases (nat_eq d c) (now c) e) [ inl p ↦ f c p | inr q ↦ w c q ]
+  past_now Return more now next o w f c e = true_false (sym o)
+  past_now (Throw l) more now next o w f c e = true_false (sym o)
+  past_now (If i a b) more now next o w f c e = true_false (sym o)
+  past_now (When x a b) more now next o w f c e = true_false (sym o)
+  past_now (AwaitAny xs won a b) more now next o w f c e = true_false (sym o)
+  past_now (Try k list canceled caught finally) more now next o w f c e = true_false (sym o)
+  past_now Rethrow more now next o w f c e = true_false (sym o)
+  past_now s more now next o w f c e = w c e
 
   -- the lists of a choice
   list_in : (s : Statement) (list : Statements) (k : Bool) (now : ℕ → Bool) → IsListOf s list → AllAt (asked g t) k s now → AllIn (asked g t) k list now
@@ -257,22 +265,22 @@ module _ (g : TaskGraph) (t : ℕ) where
   LeftNow v h left = LeftAll (asked g t) (started g v h) left (started g v h)
 
   -- so it stays true where a body goes on
-  moved_left : (s : Statement) (more to : Statements) (way : UnderWay) (now then : ℕ → Bool) → Moves s more to way → comes_next s ≡ true → Within now then → ((d : ℕ) → is_start d (s ⨾ more) ≡ true → then d ≡ true) → LeftAll (asked g t) now (s ⨾ more) now → LeftAll (asked g t) then (rest_at to way).left then
-  moved_left s more to way now then (passes f) n w st l =
+  moved_left : (s : Statement) (more to : Statements) (way : UnderWay) (now next : ℕ → Bool) → Moves s more to way → comes_next s ≡ true → Within now next → ((d : ℕ) → is_start d (s ⨾ more) ≡ true → next d ≡ true) → LeftAll (asked g t) now (s ⨾ more) now → LeftAll (asked g t) next (rest_at to way).left next
+  moved_left s more to way now next (passes f) n w st l =
       let parts = whole_left (asked g t) (asked_grows g t) s more now now (no_mark s n) l in
-      comes_left (asked g t) (asked_grows g t) then (started_past s now) (comes more way) (λ i. past_now s more now then (f i) w st)
-      (left_mono (asked g t) (asked_grows g t) more now then (started_past s now) (started_past s now) w (λ c e. e) parts.1)
-  moved_left s more to way now then (rethrows e) n w st l =
+      comes_left (asked g t) (asked_grows g t) next (started_past s now) (comes more way) (λ i. past_now s more now next (f i) w st)
+      (left_mono (asked g t) (asked_grows g t) more now next (started_past s now) (started_past s now) w (λ c e. e) parts.1)
+  moved_left s more to way now next (rethrows e) n w st l =
       let parts = whole_left (asked g t) (asked_grows g t) s more now now (no_mark s n) l in
       let placed : in_catch more ≡ true = subst (λ z. AllAt (asked g t) (in_catch more) z now) e parts.0 in
-      comes_left (asked g t) (asked_grows g t) then (started_past s now) (comes more way) (λ i. true_false (sym placed ∙ ap not i))
-      (left_mono (asked g t) (asked_grows g t) more now then (started_past s now) (started_past s now) w (λ c e. e) parts.1)
-  moved_left s more to way now then (chooses list o) n w st l =
+      comes_left (asked g t) (asked_grows g t) next (started_past s now) (comes more way) (λ i. true_false (sym placed ∙ ap not i))
+      (left_mono (asked g t) (asked_grows g t) more now next (started_past s now) (started_past s now) w (λ c e. e) parts.1)
+  moved_left s more to way now next (chooses list o) n w st l =
       let parts = whole_left (asked g t) (asked_grows g t) s more now now (no_mark s n) l in
-      comes_left (asked g t) (asked_grows g t) then then (comes (followed_by list more) GoingOn) (λ i c e. e)
-      (left_ahead (asked g t) (asked_grows g t) list more (in_catch more) then then (λ e. e)
-      (in_mono (asked g t) (asked_grows g t) (in_catch more) (in_catch more) list now then (λ e. e) w (list_in s list (in_catch more) now o parts.0))
-      (left_mono (asked g t) (asked_grows g t) more now then (started_past s now) (started_behind list then) w (λ c e. behind_mono list now then w c (list_behind s list now o c e)) parts.1))
+      comes_left (asked g t) (asked_grows g t) next next (comes (followed_by list more) GoingOn) (λ i c e. e)
+      (left_ahead (asked g t) (asked_grows g t) list more (in_catch more) next next (λ e. e)
+      (in_mono (asked g t) (asked_grows g t) (in_catch more) (in_catch more) list now next (λ e. e) w (list_in s list (in_catch more) now o parts.0))
+      (left_mono (asked g t) (asked_grows g t) more now next (started_past s now) (started_behind list next) w (λ c e. behind_mono list now next w c (list_behind s list now o c e)) parts.1))
 
   nothing_before : (now : ℕ → Bool) → Within none_started now
   nothing_before now c e = true_false (sym e)
@@ -310,13 +318,13 @@ module _ (g : TaskGraph) (t : ℕ) where
           (λ d s. st d (subst (λ z. is_start d z ≡ true) (sym m.was) s))
           (subst (λ z. LeftNow v h z) m.was old))
         where
+          same : (x : Statement) (rest2 : Statements) → IsNext (rest g v h t) x rest2 → comes_next m.next ≡ true
+          same x rest2 n = let f : x ⨾ rest2 ≡ m.next ⨾ m.more = sym n.left ∙ m.was in let one : x ≡ m.next = cc in subst (λ y. comes_next y ≡ true) one n.next
           next_is : Stood (rest g v h t) → comes_next m.next ≡ true
           next_is s = elim s [
               | inl z ↦ absurd (let f : Nothing ≡ m.next ⨾ m.more = sym z ∙ m.was in cc)
               | inr z ↦ same z.0 z.1 z.2
             ]
-          same : (x : Statement) (rest2 : Statements) → IsNext (rest g v h t) x rest2 → comes_next m.next ≡ true
-          same x rest2 n = let f : x ⨾ rest2 ≡ m.next ⨾ m.more = sym n.left ∙ m.was in let one : x ≡ m.next = cc in subst (λ y. comes_next y ≡ true) one n.next
 
 -- what is asked of the next statement is true of it
 pub next_asked : (g : TaskGraph) (v : List Bool) (h : List Event) (t : ℕ) (s : Statement) (more : Statements) → IsGraph g → is_task g t → Run g v h → IsNext (rest g v h t) s more → AllAt (asked g t) (in_catch more) s (started g v h)

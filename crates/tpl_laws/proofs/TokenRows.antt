@@ -30,7 +30,8 @@ use Rattle.tpl_laws.proofs.Kept.{after, ending_new, final_of, requested_kept, st
 use Rattle.tpl_laws.proofs.Execution.{pushed, passed, StartedBy, started_parent, stepped_or_before}
 use Rattle.tpl_laws.proofs.Ready.{may_not_start_so, Ready, begun_ready, waiting_ready, IsBody, any_winner}
 use Rattle.tpl_laws.proofs.Follows.{Fits, Follows, follows, winner_some}
-use Rattle.tpl_laws.proofs.Settling.{child_rules, has_subject_of, attached_child, filter_mem, settled_kept, all_over_mem, children_over, started_by_parent}
+use Rattle.tpl_laws.proofs.Settling.{child_rules, has_subject_of, attached_child, filter_mem, settled_kept, all_over_mem, children_over}
+use Rattle.tpl_laws.proofs.Execution.{started_by_parent}
 use Rattle.tpl_laws.proofs.Carrying.{Ends, drops, leaves, settled, BodyEnds, how_ends, carries_faulted, gathered_from, gathered_adds, gathered_keeps, those_mem, mem_those, body_faulted, carried_some}
 use Rattle.tpl_laws.proofs.RowsAreTrue.{left_verdict, view_fits, one_ends_mem, requested_loud}
 use Rattle.tpl_laws.proofs.Arguments.{may_end_so}

@@ -71,4 +71,4 @@ IsCompleteIsRight = (g : TaskGraph) (v : List Bool) (h : List Event) → (is_com
 
 -- the test of what is given passes just where it is true of the run
 abbrev pub GivenIsRight : Type 0
-GivenIsRight = (g : TaskGraph) (v : List Bool) (h : List Event) (given : List Given) → (is_given g v h given ≡ true) ↔ IsGiven g v h given
+GivenIsRight = (g : TaskGraph) (v : List Bool) (h : List Event) (given : List Given) → IsGraph g → (is_given g v h given ≡ true) ↔ IsGiven g v h given

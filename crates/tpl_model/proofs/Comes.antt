@@ -5,6 +5,7 @@ use Rattle.tpl_model.specs.declared.outcome.UnderWay.{UnderWay}
 use Rattle.tpl_model.specs.declared.outcome.UnderWay.TheVariants.{GoingOn, Returning, Throwing, Canceling}
 use Rattle.tpl_model.specs.Statements.{Statement, Try, Trying, Caught, Leaving, Statements, Nothing, ◌⨾◌, followed_by}
 use Rattle.tpl_model.specs.Cursor.{comes_next}
+pub use Rattle.tpl_model.specs.Rests.{is_going_on}
 use Rattle.tpl_model.specs.Rests.{Rest, Passage, is_canceling, is_thrown, taking_over, by_finally, by_clauses, left_of, left_from, rest_at}
 
 -- the statement is a mark
@@ -13,10 +14,6 @@ is_mark (Trying c canceled caught finally) = true
 is_mark (Caught thrown finally) = true
 is_mark (Leaving way) = true
 is_mark s = false
-
-abbrev pub is_going_on : UnderWay → Bool
-is_going_on GoingOn = true
-is_going_on way = false
 
 -- r is what is left where this is under way before these statements
 pub data Comes (r : Rest) : Statements → UnderWay → Type 0 where
@@ -136,16 +133,16 @@ pub entered : (c : Clauses) (list canceled caught finally more : Statements) →
 entered c list canceled caught finally more = found (enters (comes (followed_by list (Trying c canceled caught finally ⨾ more)) GoingOn))
 
 pub canceled_to : (c : Clauses) (canceled caught finally more : Statements) (way : UnderWay) → (c.catch_canceled && is_canceling way) ≡ true → rest_at (Trying c canceled caught finally ⨾ more) way ≡ rest_at (followed_by canceled (Caught way finally ⨾ more)) GoingOn
-canceled_to c canceled caught finally more way e = found (cancels e (comes (followed_by canceled (Caught way finally ⨾ more)) GoingOn))
+canceled_to c canceled caught finally more way e = found {b = Trying c canceled caught finally ⨾ more} {way = way} (cancels e (comes (followed_by canceled (Caught way finally ⨾ more)) GoingOn))
 
 pub caught_to : (c : Clauses) (canceled caught finally more : Statements) (way : UnderWay) → (c.catch_canceled && is_canceling way) ≡ false → (c.catch && is_thrown way) ≡ true → rest_at (Trying c canceled caught finally ⨾ more) way ≡ rest_at (followed_by caught (Caught way finally ⨾ more)) GoingOn
-caught_to c canceled caught finally more way e f = found (catches e f (comes (followed_by caught (Caught way finally ⨾ more)) GoingOn))
+caught_to c canceled caught finally more way e f = found {b = Trying c canceled caught finally ⨾ more} {way = way} (catches e f (comes (followed_by caught (Caught way finally ⨾ more)) GoingOn))
 
 pub unwound_to : (c : Clauses) (canceled caught finally more : Statements) (way : UnderWay) → (c.catch_canceled && is_canceling way) ≡ false → (c.catch && is_thrown way) ≡ false → rest_at (Trying c canceled caught finally ⨾ more) way ≡ rest_at (followed_by finally (Leaving way ⨾ more)) GoingOn
-unwound_to c canceled caught finally more way e f = found (unwinds e f (comes (followed_by finally (Leaving way ⨾ more)) GoingOn))
+unwound_to c canceled caught finally more way e f = found {b = Trying c canceled caught finally ⨾ more} {way = way} (unwinds e f (comes (followed_by finally (Leaving way ⨾ more)) GoingOn))
 
 pub handled_to : (thrown : UnderWay) (finally more : Statements) (way : UnderWay) → rest_at (Caught thrown finally ⨾ more) way ≡ rest_at (followed_by finally (Leaving way ⨾ more)) GoingOn
-handled_to thrown finally more way = found (handled (comes (followed_by finally (Leaving way ⨾ more)) GoingOn))
+handled_to thrown finally more way = found {b = Caught thrown finally ⨾ more} {way = way} (handled (comes (followed_by finally (Leaving way ⨾ more)) GoingOn))
 
 pub goes_past : (s : Statement) (more : Statements) (way : UnderWay) → is_mark s ≡ false → is_going_on way ≡ false → rest_at (s ⨾ more) way ≡ rest_at more way
 goes_past s more way m w = found (past m w (comes more way))

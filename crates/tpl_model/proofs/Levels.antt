@@ -97,6 +97,102 @@ none_open levels (suc d) fits e = no_list levels d (let f = fits.size in let i =
     no_list [] d lt e = absurd (omega arith)
     no_list (x ∷ levels) d lt e = absurd (let f = slice_get-get_or (x ∷ levels) d x lt in cc)
 
+get_first : (s : Stmt) (list : List Stmt) → slice_get (s ∷ list) 0 ≡ Some s
+get_first s list = slice_get-get_or (s ∷ list) 0 s (omega arith)
+
+none_first : (list : List Stmt) (s : Stmt) → list ≡ [] → slice_get list 0 ≡ Some s → ⊥
+none_first [] s e f = absurd (cc)
+none_first (x ∷ list) s e f = absurd (cc)
+
+-- the first statement of a list, by its place
+pub first_next : (list : List Stmt) (s : Stmt) (after : Statements) → slice_get list 0 ≡ Some s → followed_by (statements_of list) after ≡ statement_of s ⨾ behind (followed_by (statements_of list) after)
+first_next [] s after e = absurd (none_first [] s refl e)
+first_next (y ∷ list) s after e =
+    let f : Some y ≡ Some s = sym (get_first y list) ∙ e in
+    let same : y ≡ s = cc in
+    ap (λ z. statement_of z ⨾ followed_by (statements_of list) after) same
+
+pub levels_next : (list : List Stmt) (s : Stmt) → slice_get list 0 ≡ Some s → levels_in (statement_of s) ≤ level_count (statements_of list)
+levels_next [] s e = absurd (none_first [] s refl e)
+levels_next (y ∷ list) s e =
+    let f : Some y ≡ Some s = sym (get_first y list) ∙ e in
+    let same : y ≡ s = cc in
+    let g = ap (λ z. levels_in (statement_of z)) same in omega arith
+
+pub begins_next : (list : List Stmt) (s : Stmt) → slice_get list 0 ≡ Some s → comes_next (statement_of s) ≡ true → begins list ≡ true
+begins_next [] s e n = absurd (none_first [] s refl e)
+begins_next (y ∷ list) s e n =
+    let f : Some y ≡ Some s = sym (get_first y list) ∙ e in
+    let same : y ≡ s = cc in
+    subst (λ z. comes_next (statement_of z) ≡ true) (sym same) n
+
+pub no_first : (list : List Stmt) → slice_get list 0 ≡ None → list ≡ []
+no_first [] e = refl
+no_first (y ∷ list) e = absurd (let f : Some y ≡ None = sym (get_first y list) ∙ e in cc)
+
+pub begins_long : (list : List Stmt) → begins list ≡ true → 0 < length list
+begins_long [] e = absurd (cc)
+begins_long (y ∷ list) e = omega arith
+
+-- a list that stands has something
+pub stands_long : (levels : Levels) (depth : ℕ) (l : Level) → IsCursor levels depth → innermost levels depth ≡ Some l → 0 < length l.left.now
+stands_long levels depth l c e = begins_long l.left.now (subst StandsIn e c.stands)
+
+pub stands_first : (levels : Levels) (depth : ℕ) (l : Level) {A : Type 0} → IsCursor levels depth → innermost levels depth ≡ Some l → slice_get l.left.now 0 ≡ None → A
+stands_first levels depth l c e none =
+    let long = stands_long levels depth l c e in
+    let f = ap length (no_first l.left.now none) in
+    absurd (omega arith)
+
+-- what begins with a statement that comes next is come to
+pub stays : (b : Statements) (s : Statement) (more : Statements) → b ≡ s ⨾ more → comes_next s ≡ true → rest_at b GoingOn ≡ record { left = b; way = GoingOn }
+stays b s more e n = found (subst (λ z. Comes (record { left = z; way = GoingOn }) z GoingOn) (sym e) (here n refl))
+
+-- what is left behind a choice
+pub no_list_chosen : (levels : Levels) (depth : ℕ) (l : Level) (s : Stmt) (first : Bool) → innermost levels depth ≡ Some l → slice_get l.left.now 0 ≡ Some s → chosen (statement_of s) first ≡ Nothing → behind (left_at levels depth) ≡ behind_choice (left_at levels depth) first
+no_list_chosen levels depth l s first is at none =
+    let i = is_innermost levels depth l is in
+    choice (left_at levels depth) (statement_of s) (behind (left_at levels depth)) first (i.left ∙ (first_next l.left.now s (marked l.mark (left_at levels (depth - 1))) at ∙ ap (λ b. statement_of s ⨾ behind b) (sym i.left))) none
+  where
+    choice : (b : Statements) (s : Statement) (more : Statements) (first : Bool) → b ≡ s ⨾ more → chosen s first ≡ Nothing → behind b ≡ behind_choice b first
+    choice b s more first e none = ap behind e ∙ (ap (λ z. followed_by z more) (sym none) ∙ ap (λ z. behind_choice z first) (sym e))
+
+-- the list of a choice is opened
+module _ (levels mid new : Levels) (depth depth1 depth2 : ℕ) (l y : Level) (s : Stmt) (first : Bool) (chose : Statements) (cursor : FitsLevels levels depth) (is : innermost levels depth ≡ Some l) (at : slice_get l.left.now 0 ≡ Some s)
+    (skip : left_at mid depth1 ≡ behind (left_at levels depth)) (skip_depth : depth1 ≡ depth) (skip_fits : FitsLevels mid depth1)
+    (chosen_is : chose ≡ chosen (statement_of s) first) (nested : level_count chose < levels_in (statement_of s)) where
+  pub choose_room : level_count chose + depth1 ≤ 8
+  choose_room =
+      let i = is_innermost levels depth l is in
+      let a = i.room cursor in
+      let b = levels_next l.left.now s at in
+      let c = i.some in
+      omega arith
+
+  pub choose_open : depth1 < 8
+  choose_open = let a = level_some chose in let b = choose_room in omega arith
+
+  module _ (list : chose ≡ statements_of y.left.now) (plain : y.mark ≡ mark.Plain) (open_depth : depth2 ≡ depth1 + 1) (open_levels : new ≡ slice_set mid depth1 y) where
+    pub choose_left : left_at new depth2 ≡ behind_choice (left_at levels depth) first
+    choose_left =
+        let i = is_innermost levels depth l is in
+        ap (left_at new) open_depth
+        ∙ (ap (λ ls. left_at ls (depth1 + 1)) open_levels
+        ∙ (put_at mid depth1 (depth1 + 1) y (omega arith) (let a = choose_open in let b = skip_fits.size in omega arith)
+        ∙ (ap (λ m. followed_by (statements_of y.left.now) (marked m (left_at mid depth1))) plain
+        ∙ (ap (λ b. followed_by b (left_at mid depth1)) (sym list ∙ chosen_is)
+        ∙ (ap (followed_by (chosen (statement_of s) first)) skip
+        ∙ choice (left_at levels depth) (i.left ∙ (first_next l.left.now s (marked l.mark (left_at levels (depth - 1))) at ∙ ap (λ b. statement_of s ⨾ behind b) (sym i.left))))))))
+      where
+        choice : (b : Statements) → b ≡ statement_of s ⨾ behind b → followed_by (chosen (statement_of s) first) (behind b) ≡ behind_choice b first
+        choice b e = sym (ap (λ z. behind_choice z first) e)
+
+    pub choose_fits : FitsLevels new depth2
+    choose_fits =
+        subst (λ ls. FitsLevels ls depth2) (sym open_levels)
+        (fits_put mid depth1 depth1 depth2 y skip_fits (omega arith) (omega (arith, open_depth))
+        (let a = choose_room in let b = ap level_count list in let c = ap mark_depth plain in omega arith))
+
 -- the first statement of a list
 pub first_of_list : (list : List Stmt) (s : Stmt) (after : Statements) → 0 < length list → s ≡ get_or list 0 s → followed_by (statements_of list) after ≡ statement_of s ⨾ behind (followed_by (statements_of list) after)
 first_of_list [] s after long is = absurd (omega arith)

@@ -3,6 +3,7 @@ use Rattle.std.proofs.Common.{◌≡◌, ℕ, zero, suc, ◌+◌, ◌-◌, ◌<�
 use Rattle.std.proofs.lemmas.Option.{slice_get-get_or}
 use Rattle.std.specs.Prelude.{slice_get}
 use Rattle.tpl_model.specs.declared.body.Stmt.{Stmt}
+use Rattle.tpl_model.specs.declared.body.Stmt.TheVariants as stmt
 use Rattle.tpl_model.specs.declared.cursor.Level.{Level}
 use Rattle.tpl_model.specs.declared.cursor.Mark.{Mark}
 use Rattle.tpl_model.specs.declared.cursor.Mark.TheVariants as mark
@@ -19,12 +20,13 @@ pub record CaughtSoFar (left : Statements) (levels : Levels) (depth : ℕ) : Typ
   pub within : depth ≤ length levels
   pub same : caught_in left ≡ caught_in (left_at levels depth)
 
+one : (s : Stmt) (more : Statements) → caught_in (statement_of s ⨾ more) ≡ caught_in more
+one stmt.Return more = refl
+one s more = refl
+
 ahead : (list : List Stmt) (more : Statements) → caught_in (followed_by (statements_of list) more) ≡ caught_in more
 ahead [] more = refl
-ahead (s ∷ list) more = one s ∙ ahead list more
-  where
-    one : (s : Stmt) → caught_in (statement_of s ⨾ followed_by (statements_of list) more) ≡ caught_in (followed_by (statements_of list) more)
-    one s = refl
+ahead (s ∷ list) more = one s (followed_by (statements_of list) more) ∙ ahead list more
 
 -- by the mark of a list, or further out
 by_mark : (l : Level) (below : Statements) (o : Option UnderWay) → caught_by l.mark ≡ o → caught_in (level_before (Some l) below) ≡ (elim o as (λ _. UnderWay) [ | None ↦ caught_in below | Some way ↦ way ])

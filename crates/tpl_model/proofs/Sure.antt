@@ -42,14 +42,14 @@ mutual
   past_mono (AwaitAny xs won a b) s t w c e = and_with (started_behind a s c) (started_behind b s c) (started_behind a t c) (started_behind b t c) (behind_mono a s t w c) (behind_mono b s t w c) e
   past_mono (Try k list canceled caught finally) s t w c e =
       or_with
-      (started_behind list s c && ((not k.catch_canceled || started_behind canceled s c) && (not k.catch || started_behind caught s c))) (started_behind finally s c)
-      (started_behind list t c && ((not k.catch_canceled || started_behind canceled t c) && (not k.catch || started_behind caught t c))) (started_behind finally t c)
-      (and_with (started_behind list s c) ((not k.catch_canceled || started_behind canceled s c) && (not k.catch || started_behind caught s c))
-      (started_behind list t c) ((not k.catch_canceled || started_behind canceled t c) && (not k.catch || started_behind caught t c))
+      ((started_behind list s c && (not k.catch_canceled || started_behind canceled s c)) && (not k.catch || started_behind caught s c)) (started_behind finally s c)
+      ((started_behind list t c && (not k.catch_canceled || started_behind canceled t c)) && (not k.catch || started_behind caught t c)) (started_behind finally t c)
+      (and_with (started_behind list s c && (not k.catch_canceled || started_behind canceled s c)) (not k.catch || started_behind caught s c)
+      (started_behind list t c && (not k.catch_canceled || started_behind canceled t c)) (not k.catch || started_behind caught t c)
+      (and_with (started_behind list s c) (not k.catch_canceled || started_behind canceled s c) (started_behind list t c) (not k.catch_canceled || started_behind canceled t c)
       (behind_mono list s t w c)
-      (and_with (not k.catch_canceled || started_behind canceled s c) (not k.catch || started_behind caught s c) (not k.catch_canceled || started_behind canceled t c) (not k.catch || started_behind caught t c)
-      (or_with (not k.catch_canceled) (started_behind canceled s c) (not k.catch_canceled) (started_behind canceled t c) (λ p. p) (behind_mono canceled s t w c))
-      (or_with (not k.catch) (started_behind caught s c) (not k.catch) (started_behind caught t c) (λ p. p) (behind_mono caught s t w c))))
+      (or_with (not k.catch_canceled) (started_behind canceled s c) (not k.catch_canceled) (started_behind canceled t c) (λ p. p) (behind_mono canceled s t w c)))
+      (or_with (not k.catch) (started_behind caught s c) (not k.catch) (started_behind caught t c) (λ p. p) (behind_mono caught s t w c)))
       (behind_mono finally s t w c) e
   past_mono x s t w c e = w c e
 
@@ -68,7 +68,7 @@ mutual
   past_more (When f a b) s c e = and_from (started_behind a s c) (started_behind b s c) (behind_more a s c e) (behind_more b s c e)
   past_more (AwaitAny xs won a b) s c e = and_from (started_behind a s c) (started_behind b s c) (behind_more a s c e) (behind_more b s c e)
   past_more (Try k list canceled caught finally) s c e =
-      or_right (started_behind list s c && ((not k.catch_canceled || started_behind canceled s c) && (not k.catch || started_behind caught s c))) (started_behind finally s c) (behind_more finally s c e)
+      or_right ((started_behind list s c && (not k.catch_canceled || started_behind canceled s c)) && (not k.catch || started_behind caught s c)) (started_behind finally s c) (behind_more finally s c e)
   past_more x s c e = e
 
 -- what is asked of a statement, by whether a catch stands around it, and by what is surely started before it
@@ -98,7 +98,7 @@ Grows P = (k l : Bool) (s : Statement) (a b : ℕ → Bool) → (k ≡ true → 
 -- what is surely started behind the list of a try, where this is now, and this was at the end of its list
 abbrev pub behind_try : Clauses → Statements → Statements → Statements → (now before : ℕ → Bool) → ℕ → Bool
 behind_try c canceled caught finally now before x =
-    (before x && ((not c.catch_canceled || started_behind canceled now x) && (not c.catch || started_behind caught now x)))
+    ((before x && (not c.catch_canceled || started_behind canceled now x)) && (not c.catch || started_behind caught now x))
     || started_behind finally now x
 
 -- a catch stands around what comes before this
@@ -137,31 +137,31 @@ module _ (P : Asked) (grows : Grows P) where
     at_mono k l (Leaving way) s t i w p = absurd p
     at_mono k l x s t i w p = grows k l x s t i w p
 
-  try_mono : (c : Clauses) (canceled caught finally : Statements) (now then s t : ℕ → Bool) → Within now then → Within s t → Within (behind_try c canceled caught finally now s) (behind_try c canceled caught finally then t)
-  try_mono c canceled caught finally now then s t n w x e =
+  try_mono : (c : Clauses) (canceled caught finally : Statements) (now next s t : ℕ → Bool) → Within now next → Within s t → Within (behind_try c canceled caught finally now s) (behind_try c canceled caught finally next t)
+  try_mono c canceled caught finally now next s t n w x e =
       or_with
-      (s x && ((not c.catch_canceled || started_behind canceled now x) && (not c.catch || started_behind caught now x))) (started_behind finally now x)
-      (t x && ((not c.catch_canceled || started_behind canceled then x) && (not c.catch || started_behind caught then x))) (started_behind finally then x)
-      (and_with (s x) ((not c.catch_canceled || started_behind canceled now x) && (not c.catch || started_behind caught now x))
-      (t x) ((not c.catch_canceled || started_behind canceled then x) && (not c.catch || started_behind caught then x))
+      ((s x && (not c.catch_canceled || started_behind canceled now x)) && (not c.catch || started_behind caught now x)) (started_behind finally now x)
+      ((t x && (not c.catch_canceled || started_behind canceled next x)) && (not c.catch || started_behind caught next x)) (started_behind finally next x)
+      (and_with (s x && (not c.catch_canceled || started_behind canceled now x)) (not c.catch || started_behind caught now x)
+      (t x && (not c.catch_canceled || started_behind canceled next x)) (not c.catch || started_behind caught next x)
+      (and_with (s x) (not c.catch_canceled || started_behind canceled now x) (t x) (not c.catch_canceled || started_behind canceled next x)
       (w x)
-      (and_with (not c.catch_canceled || started_behind canceled now x) (not c.catch || started_behind caught now x) (not c.catch_canceled || started_behind canceled then x) (not c.catch || started_behind caught then x)
-      (or_with (not c.catch_canceled) (started_behind canceled now x) (not c.catch_canceled) (started_behind canceled then x) (λ p. p) (behind_mono canceled now then n x))
-      (or_with (not c.catch) (started_behind caught now x) (not c.catch) (started_behind caught then x) (λ p. p) (behind_mono caught now then n x))))
-      (behind_mono finally now then n x) e
+      (or_with (not c.catch_canceled) (started_behind canceled now x) (not c.catch_canceled) (started_behind canceled next x) (λ p. p) (behind_mono canceled now next n x)))
+      (or_with (not c.catch) (started_behind caught now x) (not c.catch) (started_behind caught next x) (λ p. p) (behind_mono caught now next n x)))
+      (behind_mono finally now next n x) e
 
-  pub left_mono : (b : Statements) (now then s t : ℕ → Bool) → Within now then → Within s t → LeftAll P now b s → LeftAll P then b t
-  left_mono Nothing now then s t n w a = tt
-  left_mono (Trying c canceled caught finally ⨾ rest) now then s t n w a =
-      (in_mono true true canceled now then (same_catch true) n a.0, in_mono true true caught now then (same_catch true) n a.1, in_mono false false finally now then (same_catch false) n a.2,
-      left_mono rest now then (behind_try c canceled caught finally now s) (behind_try c canceled caught finally then t) n (try_mono c canceled caught finally now then s t n w) a.3)
-  left_mono (Caught thrown finally ⨾ rest) now then s t n w a =
-      (in_mono false false finally now then (same_catch false) n a.0,
-      left_mono rest now then (λ c. s c || started_behind finally now c) (λ c. t c || started_behind finally then c) n (λ c e. or_with (s c) (started_behind finally now c) (t c) (started_behind finally then c) (w c) (behind_mono finally now then n c) e) a.1)
-  left_mono (Leaving way ⨾ rest) now then s t n w a =
-      left_mono rest now then (λ c. not (is_going_on way) || s c) (λ c. not (is_going_on way) || t c) n (λ c e. or_with (not (is_going_on way)) (s c) (not (is_going_on way)) (t c) (λ p. p) (w c) e) a
-  left_mono (x ⨾ rest) now then s t n w a =
-      (at_mono (in_catch rest) (in_catch rest) x s t (same_catch (in_catch rest)) w a.0, left_mono rest now then (started_past x s) (started_past x t) n (past_mono x s t w) a.1)
+  pub left_mono : (b : Statements) (now next s t : ℕ → Bool) → Within now next → Within s t → LeftAll P now b s → LeftAll P next b t
+  left_mono Nothing now next s t n w a = tt
+  left_mono (Trying c canceled caught finally ⨾ rest) now next s t n w a =
+      (in_mono true true canceled now next (same_catch true) n a.0, in_mono true true caught now next (same_catch true) n a.1, in_mono false false finally now next (same_catch false) n a.2,
+      left_mono rest now next (behind_try c canceled caught finally now s) (behind_try c canceled caught finally next t) n (try_mono c canceled caught finally now next s t n w) a.3)
+  left_mono (Caught thrown finally ⨾ rest) now next s t n w a =
+      (in_mono false false finally now next (same_catch false) n a.0,
+      left_mono rest now next (λ c. s c || started_behind finally now c) (λ c. t c || started_behind finally next c) n (λ c e. or_with (s c) (started_behind finally now c) (t c) (started_behind finally next c) (w c) (behind_mono finally now next n c) e) a.1)
+  left_mono (Leaving way ⨾ rest) now next s t n w a =
+      left_mono rest now next (λ c. not (is_going_on way) || s c) (λ c. not (is_going_on way) || t c) n (λ c e. or_with (not (is_going_on way)) (s c) (not (is_going_on way)) (t c) (λ p. p) (w c) e) a
+  left_mono (x ⨾ rest) now next s t n w a =
+      (at_mono (in_catch rest) (in_catch rest) x s t (same_catch (in_catch rest)) w a.0, left_mono rest now next (started_past x s) (started_past x t) n (past_mono x s t w) a.1)
 
   -- the same where more is surely started before the next statement
   pub left_more : (b : Statements) (now s t : ℕ → Bool) → Within s t → LeftAll P now b s → LeftAll P now b t
@@ -176,7 +176,7 @@ module _ (P : Asked) (grows : Grows P) where
       one (Caught thrown finally) p = absurd p
       one x p = refl
 
-  -- a list, then what is left
+  -- a list, next what is left
   pub left_ahead : (b more : Statements) (k : Bool) (now before : ℕ → Bool) → (k ≡ true → in_catch more ≡ true) → AllIn P k b before → LeftAll P now more (started_behind b before) → LeftAll P now (followed_by b more) before
   left_ahead Nothing more k now before i a l = l
   left_ahead (x ⨾ b) more k now before i a l = one x a.0 (left_ahead b more k now (started_past x before) i a.1 l)
@@ -252,8 +252,8 @@ module _ (P : Asked) (grows : Grows P) where
       (left_ahead canceled (Caught way finally ⨾ more) true now now (λ i. canceling_on way parts.1) l.0
       (l.2, left_more more now (behind_try c canceled caught finally now before) (λ x. started_behind canceled now x || started_behind finally now x)
       (λ x e. or_with
-      (before x && ((not c.catch_canceled || started_behind canceled now x) && (not c.catch || started_behind caught now x))) (started_behind finally now x) (started_behind canceled now x) (started_behind finally now x)
-      (λ p. only c.catch_canceled (started_behind canceled now x) parts.0 (and_parts (not c.catch_canceled || started_behind canceled now x) (not c.catch || started_behind caught now x) (and_parts (before x) ((not c.catch_canceled || started_behind canceled now x) && (not c.catch || started_behind caught now x)) p).1).0)
+      ((before x && (not c.catch_canceled || started_behind canceled now x)) && (not c.catch || started_behind caught now x)) (started_behind finally now x) (started_behind canceled now x) (started_behind finally now x)
+      (λ p. only c.catch_canceled (started_behind canceled now x) parts.0 (and_parts (before x) (not c.catch_canceled || started_behind canceled now x) (and_parts (before x && (not c.catch_canceled || started_behind canceled now x)) (not c.catch || started_behind caught now x) p).0).1)
       (λ p. p) e) l.3))
   comes_left {b = Trying c canceled caught finally ⨾ more} {way = way} now before (catches f t h) w l =
       let parts = and_parts c.catch (is_thrown way) t in
@@ -261,16 +261,16 @@ module _ (P : Asked) (grows : Grows P) where
       (left_ahead caught (Caught way finally ⨾ more) true now now (λ i. thrown_on way parts.1) l.1
       (l.2, left_more more now (behind_try c canceled caught finally now before) (λ x. started_behind caught now x || started_behind finally now x)
       (λ x e. or_with
-      (before x && ((not c.catch_canceled || started_behind canceled now x) && (not c.catch || started_behind caught now x))) (started_behind finally now x) (started_behind caught now x) (started_behind finally now x)
-      (λ p. only c.catch (started_behind caught now x) parts.0 (and_parts (not c.catch_canceled || started_behind canceled now x) (not c.catch || started_behind caught now x) (and_parts (before x) ((not c.catch_canceled || started_behind canceled now x) && (not c.catch || started_behind caught now x)) p).1).1)
+      ((before x && (not c.catch_canceled || started_behind canceled now x)) && (not c.catch || started_behind caught now x)) (started_behind finally now x) (started_behind caught now x) (started_behind finally now x)
+      (λ p. only c.catch (started_behind caught now x) parts.0 (and_parts (before x && (not c.catch_canceled || started_behind canceled now x)) (not c.catch || started_behind caught now x) p).1)
       (λ p. p) e) l.3))
   comes_left {b = Trying c canceled caught finally ⨾ more} {way = way} now before (unwinds f g h) w l =
       comes_left now now h (λ i. all_in now)
       (finally_left finally more way now before w l.2
       (left_more more now (behind_try c canceled caught finally now before) (λ x. before x || started_behind finally now x)
       (λ x e. or_with
-      (before x && ((not c.catch_canceled || started_behind canceled now x) && (not c.catch || started_behind caught now x))) (started_behind finally now x) (before x) (started_behind finally now x)
-      (λ p. (and_parts (before x) ((not c.catch_canceled || started_behind canceled now x) && (not c.catch || started_behind caught now x)) p).0)
+      ((before x && (not c.catch_canceled || started_behind canceled now x)) && (not c.catch || started_behind caught now x)) (started_behind finally now x) (before x) (started_behind finally now x)
+      (λ p. (and_parts (before x) (not c.catch_canceled || started_behind canceled now x) (and_parts (before x && (not c.catch_canceled || started_behind canceled now x)) (not c.catch || started_behind caught now x) p).0).0)
       (λ p. p) e) l.3))
   comes_left {b = Caught thrown finally ⨾ more} {way = way} now before (handled h) w l =
       comes_left now now h (λ i. all_in now) (finally_left finally more way now before w l.0 l.1)

@@ -3,6 +3,7 @@ use Rattle.std.proofs.Common.{◌≡◌, ◌⊎◌, inl, inr, ℕ, zero, suc, �
 use Rattle.std.specs.Borrow.{Bor}
 use Rattle.std.specs.Prelude.{slice_get, slice_set}
 use Rattle.tpl_model.specs.declared.body.Stmt.{Stmt}
+use Rattle.tpl_model.specs.declared.body.Stmt.TheVariants as stmt
 use Rattle.tpl_model.specs.declared.clauses.Clauses.{Clauses}
 use Rattle.tpl_model.specs.declared.cursor.Behind.{Behind}
 use Rattle.tpl_model.specs.declared.cursor.Behind.TheVariants.{List as TheList, Out}
@@ -16,15 +17,16 @@ use Rattle.tpl_model.specs.Statements.{Statement, Statements, Try, Trying, Caugh
 use Rattle.tpl_model.specs.Seen.{statement_of, statements_of}
 use Rattle.tpl_model.specs.Limits.{level_count, levels_in, statement_count, count_one}
 use Rattle.tpl_model.specs.Rests.{Rest, rest_at, taking_over, is_canceling, is_thrown}
-use Rattle.tpl_model.specs.Cursor.{left_at, level_before, marked, level_depth, mark_depth, behind, FitsLevels, Stands, begins, comes_next, innermost, turns, turns_at, ComesBehind, IsEntered, left_behind, turns_behind}
+use Rattle.tpl_model.specs.Cursor.{left_at, level_before, marked, level_depth, mark_depth, behind, FitsLevels, Stands, StandsIn, begins, comes_next, innermost, turns, turns_at, ComesBehind, IsEntered, left_behind, turns_behind}
 use Rattle.tpl_model.proofs.Comes.{is_mark, is_going_on, entered, canceled_to, caught_to, unwound_to, handled_to, goes_past}
-use Rattle.tpl_model.proofs.Levels.{Levels, IsInnermost, is_innermost, put_at, fits_put, fits_below, first_of_list, levels_first, level_some}
+use Rattle.tpl_model.proofs.Levels.{Levels, IsInnermost, is_innermost, put_at, fits_put, fits_below, first_next, levels_next, level_some, none_open, no_first, begins_next, stays}
 
 pub turns_followed : (a b : Statements) → turns (followed_by a b) ≡ turns a + turns b
 turns_followed Nothing b = omega arith
 turns_followed (s ⨾ a) b = omega (arith, turns_followed a b)
 
 no_mark : (s : Stmt) → turns_at (statement_of s) ≡ 0
+no_mark stmt.Return = refl
 no_mark s = refl
 
 pub turns_list : (list : List Stmt) → turns (statements_of list) ≡ 5 * statement_count (statements_of list)
@@ -58,6 +60,10 @@ module _ (l : Level) (b : Statements) (m : Mark) (list : b ≡ statements_of l.l
       ap turns (sym (level_is Nothing))
       ∙ (turns_followed b (marked m Nothing) ∙ ap (λ n. n + turns (marked m Nothing)) (ap turns list ∙ (turns_list l.left.now ∙ ap (λ x. 5 * statement_count x) (sym list))))
 
+plain : (s : Stmt) → is_mark (statement_of s) ≡ false
+plain stmt.Return = refl
+plain s = refl
+
 -- a list that is over, or that something under way leaves, is left out
 pub list_over : (l : Level) (below : Statements) (way : UnderWay) → (l.left.now ≡ []) ⊎ (is_going_on way ≡ false) → rest_at (level_before (Some l) below) way ≡ rest_at (marked l.mark below) way
 list_over l below way over =
@@ -69,8 +75,6 @@ list_over l below way over =
     all_out : (list : List Stmt) → is_going_on way ≡ false → rest_at (followed_by (statements_of list) (marked l.mark below)) way ≡ rest_at (marked l.mark below) way
     all_out [] out = refl
     all_out (s ∷ list) out = goes_past (statement_of s) (followed_by (statements_of list) (marked l.mark below)) way (plain s) out ∙ all_out list out
-    plain : (s : Stmt) → is_mark (statement_of s) ≡ false
-    plain s = refl
 
 pub behind_plain : (way : UnderWay) → ComesBehind mark.Plain way (Out way)
 behind_plain way = record { left = λ more. refl; nests = omega arith; falls = omega arith }
@@ -126,7 +130,7 @@ module _ (start : Statements) (first : UnderWay) (levels : Levels) (depth : ℕ)
   inner : IsInnermost levels depth l
   inner = is_innermost levels depth l is
 
-  below : Statements
+  abbrev below : Statements
   below = left_at levels (depth - 1)
 
   lower : depth - 1 < length levels
@@ -173,41 +177,67 @@ module _ (start : Statements) (first : UnderWay) (levels : Levels) (depth : ℕ)
       omega arith
 
   -- a try is entered
-  module _ (s : Stmt) (entry : Level) (skipped_levels new : Levels) (depth1 depth2 : ℕ) (long : 0 < length l.left.now) (one : s ≡ get_or l.left.now 0 s) (enters : IsEntered (statement_of s) entry)
-      (skip : left_at skipped_levels depth1 ≡ behind (left_at levels depth)) (skip_depth : depth1 ≡ depth) (skip_fits : FitsLevels skipped_levels depth1) (open_depth : depth2 ≡ depth1 + 1) (open_levels : new ≡ slice_set skipped_levels depth1 entry) (going : way ≡ GoingOn) where
+  module _ (s : Stmt) (entry : Level) (mid : Levels) (depth1 : ℕ) (at_front : (way ≡ GoingOn) × (slice_get l.left.now 0 ≡ Some s)) (enters : IsEntered (statement_of s) entry)
+      (skip : left_at mid depth1 ≡ behind (left_at levels depth)) (skip_depth : depth1 ≡ depth) (skip_fits : FitsLevels mid depth1) where
     first_is : left_at levels depth ≡ statement_of s ⨾ behind (left_at levels depth)
-    first_is = inner.left ∙ (first_of_list l.left.now s (marked l.mark below) long one ∙ ap (λ b. statement_of s ⨾ behind b) (sym inner.left))
+    first_is = inner.left ∙ (first_next l.left.now s (marked l.mark below) at_front.1 ∙ ap (λ b. statement_of s ⨾ behind b) (sym inner.left))
 
     room : level_depth (Some entry) + depth1 ≤ 8
     room =
         let a = inner.room so_far.fits in
-        let b = levels_first l.left.now s long one in
+        let b = levels_next l.left.now s at_front.1 in
         let c = enters.nests in
         let d = inner.some in
         omega arith
 
-    deep : depth1 < length skipped_levels
-    deep = let a = level_some (statements_of entry.left.now) in let b = room in let c = skip_fits.size in omega arith
+    pub open_room : depth1 < 8
+    open_room = let a = level_some (statements_of entry.left.now) in let b = room in omega arith
 
-    put : left_at new depth2 ≡ level_before (Some entry) (behind (left_at levels depth))
-    put =
-        ap (left_at new) open_depth
-        ∙ (ap (λ ls. left_at ls (depth1 + 1)) open_levels
-        ∙ (put_at skipped_levels depth1 (depth1 + 1) entry (omega arith) deep ∙ ap (level_before (Some entry)) skip))
+    module _ (new : Levels) (depth2 : ℕ) (open_depth : depth2 ≡ depth1 + 1) (open_levels : new ≡ slice_set mid depth1 entry) where
+      put : left_at new depth2 ≡ level_before (Some entry) (behind (left_at levels depth))
+      put =
+          ap (left_at new) open_depth
+          ∙ (ap (λ ls. left_at ls (depth1 + 1)) open_levels
+          ∙ (put_at mid depth1 (depth1 + 1) entry (omega arith) (let a = open_room in let b = skip_fits.size in omega arith) ∙ ap (level_before (Some entry)) skip))
 
-    pub try_entered : ComesSoFar start first new depth2 GoingOn
-    try_entered = record {
-      fits = subst (λ ls. FitsLevels ls depth2) (sym open_levels) (fits_put skipped_levels depth1 depth1 depth2 entry skip_fits (omega arith) (omega (arith, open_depth)) room);
-      left =
-          so_far.left
-          ∙ (ap (rest_at (left_at levels depth)) going
-          ∙ (ap (λ b. rest_at b GoingOn) first_is ∙ (enters.left (behind (left_at levels depth)) ∙ ap (λ b. rest_at b GoingOn) (sym put))));
-    }
+      pub try_entered : ComesSoFar start first new depth2 way
+      try_entered = record {
+        fits = subst (λ ls. FitsLevels ls depth2) (sym open_levels) (fits_put mid depth1 depth1 depth2 entry skip_fits (omega arith) (omega (arith, open_depth)) room);
+        left =
+            so_far.left
+            ∙ (ap (rest_at (left_at levels depth)) at_front.0
+            ∙ (ap (λ b. rest_at b GoingOn) first_is
+            ∙ (enters.left (behind (left_at levels depth))
+            ∙ (ap (λ b. rest_at b GoingOn) (sym put) ∙ ap (rest_at (left_at new depth2)) (sym at_front.0)))));
+      }
 
-    pub try_turns : more_turns new depth2 < more_turns levels depth
-    try_turns =
-        let a = ap turns put in
-        let b = turns_level entry (behind (left_at levels depth)) in
-        let c = ap turns first_is in
-        let d = enters.falls in
-        omega arith
+      pub try_turns : more_turns new depth2 < more_turns levels depth
+      try_turns =
+          let a = ap turns put in
+          let b = turns_level entry (behind (left_at levels depth)) in
+          let c = ap turns first_is in
+          let d = enters.falls in
+          omega arith
+
+  -- the statement that is next comes next
+  pub next_comes : (s : Stmt) → (way ≡ GoingOn) × (slice_get l.left.now 0 ≡ Some s) → comes_next (statement_of s) ≡ true → (rest_at start first ≡ record { left = left_at levels depth; way = way }) × Stands levels depth
+  next_comes s at_front next = (
+        so_far.left ∙ (ap (rest_at (left_at levels depth)) at_front.0
+        ∙ (stays (left_at levels depth) (statement_of s) (behind (left_at levels depth)) (inner.left ∙ (first_next l.left.now s (marked l.mark below) at_front.1 ∙ ap (λ b. statement_of s ⨾ behind b) (sym inner.left))) next
+        ∙ ap (λ w. let r : Rest = record { left = left_at levels depth; way = w } in r) (sym at_front.0))),
+        subst StandsIn (sym is) (begins_next l.left.now s at_front.1 next),
+      )
+
+-- no list is open any more
+pub none_comes : (start : Statements) (first : UnderWay) (levels : Levels) (depth : ℕ) (way : UnderWay) → ComesSoFar start first levels depth way → innermost levels depth ≡ None → rest_at start first ≡ record { left = left_at levels depth; way = way }
+none_comes start first levels depth way so_far none =
+    let zero_is = none_open levels depth so_far.fits none in
+    so_far.left ∙ (ap (λ n. rest_at (left_at levels n) way) zero_is ∙ ap (λ n. let r : Rest = record { left = left_at levels n; way = way } in r) (sym zero_is))
+
+-- a list is over, or something is under way
+pub over_of : (list : List Stmt) (way : UnderWay) → (slice_get list 0 ≡ None) ⊎ (way ≡ GoingOn → ⊥) → (list ≡ []) ⊎ (is_going_on way ≡ false)
+over_of list way o = elim o [ inl e ↦ inl (no_first list e) | inr f ↦ inr (not_going way f) ]
+  where
+    not_going : (way : UnderWay) → (way ≡ GoingOn → ⊥) → is_going_on way ≡ false
+    not_going GoingOn f = absurd (f refl)
+    not_going way f = refl

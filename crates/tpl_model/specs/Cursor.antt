@@ -1,8 +1,10 @@
 -- What is left of a body behind a statement, and how it is kept: as lists that are open, with their marks.
-use Rattle.std.specs.Prelude.{◌≡◌, ℕ, zero, suc, ◌+◌, ◌*◌, ◌≤◌, ◌<◌, Bool, true, false, List, [], ◌∷◌, Option, Some, None, slice_get, length, max, if◌then◌else◌}
+use Rattle.std.specs.Prelude.{◌≡◌, ◌⊎◌, ℕ, zero, suc, ◌+◌, ◌*◌, ◌≤◌, ◌<◌, Bool, true, false, List, [], ◌∷◌, Option, Some, None, slice_get, length, max, if◌then◌else◌}
 use Rattle.tpl_model.specs.declared.body.Stmt.{Stmt}
 use Rattle.tpl_model.specs.declared.cursor.Behind.{Behind}
 use Rattle.tpl_model.specs.declared.cursor.Behind.TheVariants.{List as TheList, Out}
+use Rattle.tpl_model.specs.declared.cursor.Front.{Front}
+use Rattle.tpl_model.specs.declared.cursor.Front.TheVariants as front
 use Rattle.tpl_model.specs.declared.cursor.Level.{Level}
 use Rattle.tpl_model.specs.declared.cursor.Mark.{Mark}
 use Rattle.tpl_model.specs.declared.cursor.Mark.TheVariants as mark
@@ -107,6 +109,11 @@ pub record FitsLevels (levels : List Level) (depth : ℕ) : Type 0 where
 pub record IsCursor (levels : List Level) (depth : ℕ) : Type 0 where
   pub fits : FitsLevels levels depth
   pub stands : Stands levels depth
+
+-- what a list is at, where this is under way
+abbrev pub IsAt : Level → UnderWay → Front → Type 0
+IsAt l way (front.Statement s) = (way ≡ GoingOn) × (slice_get l.left.now 0 ≡ Some s.now)
+IsAt l way front.Left = (slice_get l.left.now 0 ≡ None) ⊎ (way ≡ GoingOn → ⊥)
 
 -- how often one may still go on from a mark to a list before the next statement
 abbrev pub turns_at : Statement → ℕ

@@ -1,8 +1,8 @@
 -- The definitions that sources cite, passed on from one place. Declares nothing.
 pub use Rattle.tpl_model.specs.Certificate.{Accepts, AcceptsTree, ArePlain, Assumed, IsPlain, LeastLeaf, OnEnd, OnInput, OnWinner, PlainRow, Row, RowsLeaf, Tree, as_quiet, assumed, assumed_for, begins_itself, end_left, given_quiet, is_loud, may_end, may_end_early, one_ends, own_quiet, plain, row, same, subject_set, view, with_end, with_input}
 pub use Rattle.tpl_model.specs.Claims.{AreAll, HasNoGap, Holds, HoldsOf, IsGiven, SettledAtBegin, bodied_tasks, named_tasks, names, property_map, somes, try_map}
-pub use Rattle.tpl_model.specs.Cursor.{BeginsWith, ComesBehind, FitsLevels, IsEntered, Stands, behind, behind_choice, caught_by, chosen, comes_next, innermost, left_at}
-pub use Rattle.tpl_model.specs.Rests.{Rest, caught_in, outcome_by, rest_at}
+pub use Rattle.tpl_model.specs.Cursor.{BeginsWith, ComesBehind, FitsLevels, IsAt, IsCursor, IsEntered, Stands, behind, behind_choice, caught_by, chosen, comes_next, innermost, left_at}
+pub use Rattle.tpl_model.specs.Rests.{Rest, caught_in, is_canceling, is_going_on, is_thrown, outcome_by, rest_at}
 pub use Rattle.tpl_model.specs.Ends.{checked, either_end, ends_at, ends_in, only_if, then_ends}
 pub use Rattle.tpl_model.specs.Facts.{Ending, all_final, all_over, begun, begun_by, runner, runs_by, body_final, body_over, carried_in, earlier, ended_at_once, ending, failed, final_in, first_ended, gathered, has_final, is_observe, left_body, left_by, on, outcome_in, outcome_of, own_atom, place_in, released, requested, requested_itself, rest, as_exception, as_thrown, awaited, awaited_of, first_so, is_child, is_winner, resumed, settled_as, started, stopped_by, subject_in, those_started, uncaught, waited, waited_of, winner_of, worked, worse}
 pub use Rattle.tpl_model.specs.Finals.{IsPart, final_name, has, is_final}

@@ -19,6 +19,11 @@ outcome_by Returning = Some Returned
 outcome_by (Throwing label) = Some (Threw label)
 outcome_by (Canceling outcome) = Some outcome
 
+-- nothing is under way
+abbrev pub is_going_on : UnderWay → Bool
+is_going_on GoingOn = true
+is_going_on way = false
+
 -- an OperationCanceledException is under way
 abbrev pub is_canceling : UnderWay → Bool
 is_canceling (Canceling outcome) = true

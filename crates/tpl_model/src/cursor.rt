@@ -1,7 +1,7 @@
 //! What is left of a body while it runs.
 
-ghost use Rattle.std.specs.Prelude.{◌≡◌, ◌<◌, ◌≤◌, ◌-◌, ◌+◌, Some, true, MatchOption, IfSome, length, slice_set};
-ghost use Rattle.tpl_model.specs.Prelude.{BeginsWith, ComesBehind, FitsLevels, IsEntered, Nothing, Stands, behind, behind_choice, caught_by, caught_in, chosen, comes_next, innermost, left_at, level_count, levels_in, rest_at, statement_of, statements_of};
+ghost use Rattle.std.specs.Prelude.{◌≡◌, ◌<◌, ◌≤◌, ◌-◌, ◌+◌, ◌&&◌, Some, true, MatchOption, IfSome, length, slice_set};
+ghost use Rattle.tpl_model.specs.Prelude.{BeginsWith, ComesBehind, FitsLevels, IsAt, IsCursor, IsEntered, Nothing, Stands, behind, behind_choice, caught_by, caught_in, chosen, comes_next, innermost, is_canceling, is_thrown, left_at, level_count, levels_in, rest_at, statement_of, statements_of};
 
 use crate::body::{Body, Stmt};
 use crate::clauses::Clauses;
@@ -127,15 +127,15 @@ impl<'a> OpenLists<'a> {
     {
         let mut way = way;
         while let Some(level) = self.innermost() {
-            match level.left.first() {
-                Some(statement) if way == UnderWay::GoingOn => match tried(statement) {
+            match front_of(level, way) {
+                Front::Statement(statement) => match tried(statement) {
                     Some(inner) => {
                         self.skip(level);
                         self.open(inner);
                     }
                     None => return way,
                 },
-                _ => match behind_list(level.mark, way) {
+                Front::Left => match behind_list(level.mark, way) {
                     Behind::List(next) => {
                         self.replace(next);
                         way = UnderWay::GoingOn;
@@ -148,6 +148,46 @@ impl<'a> OpenLists<'a> {
             }
         }
         way
+    }
+
+    /// Leaves the next statement out, if one is left.
+    fn pass(&mut self)
+        requires { IsCursor self.old.levels self.old.depth }
+        ensures left { left_at self.new.levels self.new.depth
+            ≡ behind (left_at self.old.levels self.old.depth) }
+        ensures fits { FitsLevels self.new.levels self.new.depth }
+    {
+        let level = match self.innermost() {
+            Some(level) => level,
+            None => return,
+        };
+        self.skip(level);
+    }
+
+    /// Leaves the next statement out, if one is left, and opens the first or the second list of a choice.
+    fn choose(&mut self, first: bool)
+        requires { IsCursor self.old.levels self.old.depth }
+        ensures left { left_at self.new.levels self.new.depth
+            ≡ behind_choice (left_at self.old.levels self.old.depth) first }
+        ensures fits { FitsLevels self.new.levels self.new.depth }
+    {
+        let level = match self.innermost() {
+            Some(level) => level,
+            None => return,
+        };
+        let statement = match level.left.first() {
+            Some(statement) => statement,
+            None => return,
+        };
+        self.skip(level);
+        let body = match chosen_list(statement, first) {
+            Some(body) => body,
+            None => return,
+        };
+        self.open(Level {
+            left: body.list(),
+            mark: Mark::Plain,
+        });
     }
 }
 
@@ -177,8 +217,7 @@ impl<'a> Model for Cursor<'a> {
 impl<'a> Cursor<'a> {
     /// The whole script is left.
     pub fn new(script: &'a Script) -> Cursor<'a>
-        ensures { rest_at script.now UnderWay.GoingOn
-            ≡ record { left = result; way = UnderWay.GoingOn } }
+        ensures { (rest_at script.now UnderWay.GoingOn).left ≡ result }
     {
         let level = Level {
             left: script.body().list(),
@@ -215,9 +254,7 @@ impl<'a> Cursor<'a> {
     pub fn pass(&mut self, way: UnderWay) -> UnderWay
         ensures { rest_at (behind self.old) way ≡ record { left = self.new; way = result } }
     {
-        if let Some(level) = self.open.innermost() {
-            self.open.skip(level);
-        }
+        self.open.pass();
         self.open.come(way)
     }
 
@@ -227,19 +264,7 @@ impl<'a> Cursor<'a> {
         ensures { rest_at (behind_choice self.old first) UnderWay.GoingOn
             ≡ record { left = self.new; way = result } }
     {
-        if let Some(level) = self.open.innermost() {
-            let chosen = match level.left.first() {
-                Some(statement) => chosen_list(statement, first),
-                None => None,
-            };
-            self.open.skip(level);
-            if let Some(body) = chosen {
-                self.open.open(Level {
-                    left: body.list(),
-                    mark: Mark::Plain,
-                });
-            }
-        }
+        self.open.choose(first);
         self.open.come(UnderWay::GoingOn)
     }
 
@@ -251,12 +276,34 @@ impl<'a> Cursor<'a> {
         let mut depth = self.open.depth;
         while depth > 0 {
             let level = levels[depth - 1];
-            if let Some(thrown) = level.mark.caught() {
-                return thrown;
+            match level.mark.caught() {
+                Some(thrown) => return thrown,
+                None => depth -= 1,
             }
-            depth -= 1;
         }
         UnderWay::GoingOn
+    }
+}
+
+/// What a list that is open is at.
+#[derive(Clone, Copy)]
+pub(crate) enum Front<'a> {
+    /// Nothing is under way, and this statement is next in it.
+    Statement(&'a Stmt),
+    /// It is over, or what is under way leaves it.
+    Left,
+}
+
+/// What a list is at, where this is under way.
+fn front_of<'a>(level: Level<'a>, way: UnderWay) -> Front<'a>
+    ensures { IsAt level.entry way result }
+{
+    match way {
+        UnderWay::GoingOn => match level.left.first() {
+            Some(statement) => Front::Statement(statement),
+            None => Front::Left,
+        },
+        _ => Front::Left,
     }
 }
 
@@ -289,15 +336,27 @@ fn behind_list<'a>(mark: Mark<'a>, way: UnderWay) -> Behind<'a>
 fn behind_try<'a>(handlers: Handlers<'a>, way: UnderWay) -> Level<'a>
     ensures { ComesBehind (Mark.Trying handlers.entry) way (Behind.List result) }
 {
-    match way {
-        UnderWay::Canceling(_) if handlers.clauses.catch_canceled => {
-            handling(handlers.canceled, handlers.finally, way)
-        }
-        UnderWay::Canceling(_) | UnderWay::Throwing(_) if handlers.clauses.catch => {
-            handling(handlers.caught, handlers.finally, way)
-        }
-        _ => leaving_by(handlers.finally, way),
+    if catches_canceled(handlers.clauses, way) {
+        return handling(handlers.canceled, handlers.finally, way);
     }
+    if catches(handlers.clauses, way) {
+        return handling(handlers.caught, handlers.finally, way);
+    }
+    leaving_by(handlers.finally, way)
+}
+
+/// The clause for cancellations catches what is under way.
+fn catches_canceled(clauses: Clauses, way: UnderWay) -> bool
+    ensures { result ≡ (clauses.catch_canceled && is_canceling way) }
+{
+    clauses.catch_canceled && way.is_canceling()
+}
+
+/// The clause for exceptions catches what is under way, where the other one doesn't.
+fn catches(clauses: Clauses, way: UnderWay) -> bool
+    ensures { result ≡ (clauses.catch && is_thrown way) }
+{
+    clauses.catch && way.is_thrown()
 }
 
 /// The list of a `catch` that caught this, in a `try` with this `finally`.

@@ -1,7 +1,7 @@
 //! How bodies end, and what is under way in them before that.
 
 ghost use Rattle.std.specs.Prelude.{◌≡◌};
-ghost use Rattle.tpl_model.specs.Prelude.{as_exception, as_thrown, outcome_by};
+ghost use Rattle.tpl_model.specs.Prelude.{as_exception, as_thrown, is_canceling, is_thrown, outcome_by};
 
 use crate::Label;
 
@@ -61,6 +61,26 @@ impl UnderWay {
         match self {
             UnderWay::Canceling(Outcome::Threw(label)) => UnderWay::Throwing(label),
             way => way,
+        }
+    }
+
+    /// An OperationCanceledException is under way.
+    pub(crate) fn is_canceling(self) -> bool
+        ensures { result ≡ is_canceling self }
+    {
+        match self {
+            UnderWay::Canceling(_) => true,
+            _ => false,
+        }
+    }
+
+    /// An exception is under way, of whatever type.
+    pub(crate) fn is_thrown(self) -> bool
+        ensures { result ≡ is_thrown self }
+    {
+        match self {
+            UnderWay::Throwing(_) | UnderWay::Canceling(_) => true,
+            _ => false,
         }
     }
 }
