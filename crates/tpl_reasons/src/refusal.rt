@@ -61,12 +61,16 @@ fn running_text<C: Core>(alloc: Global, core: &C, task: TaskId) -> Said {
         Next::Await => ", and it awaits tasks",
         Next::NotRunning => "",
     };
-    match began_by(core.events(), task) {
-        Some(actor) => {
+    match (began_by(core.events(), task), core.runner(task)) {
+        (Some(actor), Some(other)) if other != actor => {
+            let (actor, other) = (actor_text(alloc, actor)?, actor_text(alloc, other)?);
+            format!(in alloc; ", begun by {actor} and last resumed by {other}{next}")
+        }
+        (Some(actor), _) => {
             let actor = actor_text(alloc, actor)?;
             format!(in alloc; ", begun by {actor}{next}")
         }
-        None => String::from_str(alloc, next),
+        (None, _) => String::from_str(alloc, next),
     }
 }
 
