@@ -124,8 +124,8 @@ impl Place<'_> {
     #[cycle(note)]
     fn note_older(self, older: &mut [TaskSet], body: &Body, before: &Sure)
         requires { AreCounted body.now }
-        ensures { AreNoted (λ x. mem x self.older.now) (λ x. mem x self.own.now) (is_sure before.now)
-            body.now older.old older.new }
+        ensures { AreNoted (λ x. mem x self.older.now) (λ x. mem x self.own.now)
+            (is_sure before.now) body.now older.old older.new }
     {
         let mut sure = before.copy();
         for statement in body.list() {
@@ -137,8 +137,8 @@ impl Place<'_> {
     #[cycle(note)]
     fn note_older_in(self, older: &mut [TaskSet], statement: &Stmt, before: &Sure)
         requires { All (λ c. c < MOST_TASKS) (starts_of (statement_of statement.now)) }
-        ensures { AreNoted (λ x. mem x self.older.now) (λ x. mem x self.own.now) (is_sure before.now)
-            (statement_of statement.now ⨾ Nothing) older.old older.new }
+        ensures { AreNoted (λ x. mem x self.older.now) (λ x. mem x self.own.now)
+            (is_sure before.now) (statement_of statement.now ⨾ Nothing) older.old older.new }
     {
         match statement {
             Stmt::Start(child) => self.note_start(older, *child, before),
@@ -166,8 +166,8 @@ impl Place<'_> {
 
     /// Notes which children are older than one that is started here.
     fn note_start(self, older: &mut [TaskSet], child: TaskId, before: &Sure)
-        ensures { AreNoted (λ x. mem x self.older.now) (λ x. mem x self.own.now) (is_sure before.now)
-            (Start child.0 ⨾ Nothing) older.old older.new }
+        ensures { AreNoted (λ x. mem x self.older.now) (λ x. mem x self.own.now)
+            (is_sure before.now) (Start child.0 ⨾ Nothing) older.old older.new }
     {
         let at = child.0 as usize;
         if at < older.len() {

@@ -402,7 +402,8 @@ fn statement_of<'v, 't>(
     levels: u32,
     value: &'v Value<'t>,
 ) -> Result<DraftStmt, Miss<Shape<'v, 't>>>
-    ensures { Gives line_of result (statement_at version (body_at version levels) (view value.now)) }
+    ensures { Gives line_of result (statement_at version (body_at version levels)
+        (view value.now)) }
 {
     match value {
         Value::String(word) => match word_of(version, word) {
@@ -429,8 +430,8 @@ fn statements_of<'v, 't>(
     levels: u32,
     values: &'v [Value<'t>],
 ) -> Result<Vec<DraftStmt>, Miss<Shape<'v, 't>>>
-    ensures { Gives (λ v. map line_of v.items) result (each (statement_at version (body_at version levels))
-        (map view values.now)) }
+    ensures { Gives (λ v. map line_of v.items) result
+        (each (statement_at version (body_at version levels)) (map view values.now)) }
 {
     let mut statements = Vec::new(alloc);
     for value in values {

@@ -4,7 +4,7 @@ use Rattle.tpl_draft.specs.Ids.{task_number}
 use Rattle.tpl_draft.specs.Names.{place}
 use Rattle.tpl_draft.specs.Numbered.{AreFew}
 use Rattle.tpl_draft.specs.Tables.{seen}
-use Rattle.tpl_graph.proofs.rows.task_ids.Given as goal
+use Rattle.tpl_draft.proofs.numbering.task_ids.Given as goal
 
 abbrev pub invariant-loop-name : goal.invariant-loop-name
 invariant-loop-name l = record {
