@@ -7,4 +7,4 @@ use Rattle.tpl_model.proofs.cursor.Cursor.new.Goals as goal
 pub returns : goal.returns
 returns c =
     ap (λ (r : Rest). r.left)
-    (ap (λ b. rest_at b GoingOn) (sym (followed_by-nothing _ ∙ (sym c.list-level.ensures ∙ c.body.ensures.body))) ∙ c.come.ensures.comes)
+    (ap (λ b. rest_at b GoingOn) (sym (followed_by-nothing _ ∙ (sym c.list.ensures ∙ c.body.ensures.body))) ∙ c.come.ensures.comes)

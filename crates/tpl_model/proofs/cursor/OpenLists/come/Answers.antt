@@ -7,12 +7,12 @@ pub open-requires : goal.open-requires
 open-requires c =
     open_room _ _ _ _ _ _ c.loop-level.invariant (sym c.innermost.ensures ∙ c.in-Some.is) _ _ _ _ c.in-Statement.ensures c.in-Some-tried.ensures c.skip.ensures.left c.skip.ensures.depth c.skip.ensures.fits
 
-pub loop-level-smaller-in-Statement : goal.loop-level-smaller-in-Statement
-loop-level-smaller-in-Statement c =
+pub loop-level-smaller-in-Some-tried : goal.loop-level-smaller-in-Some-tried
+loop-level-smaller-in-Some-tried c =
     try_turns _ _ _ _ _ _ c.loop-level.invariant (sym c.innermost.ensures ∙ c.in-Some.is) _ _ _ _ c.in-Statement.ensures c.in-Some-tried.ensures c.skip.ensures.left c.skip.ensures.depth c.skip.ensures.fits _ _ c.open.ensures.depth c.open.ensures.levels
 
-pub loop-level-preserved-in-Statement : goal.loop-level-preserved-in-Statement
-loop-level-preserved-in-Statement c =
+pub loop-level-preserved-in-Some-tried : goal.loop-level-preserved-in-Some-tried
+loop-level-preserved-in-Some-tried c =
     try_entered _ _ _ _ _ _ c.loop-level.invariant (sym c.innermost.ensures ∙ c.in-Some.is) _ _ _ _ c.in-Statement.ensures c.in-Some-tried.ensures c.skip.ensures.left c.skip.ensures.depth c.skip.ensures.fits _ _ c.open.ensures.depth c.open.ensures.levels
 
 pub loop-level-smaller-in-List : goal.loop-level-smaller-in-List
