@@ -7,7 +7,7 @@ use Rattle.tpl_model.specs.Members.{mem}
 use Rattle.tpl_model.specs.Graph.{TaskGraph, Plain, token, sources, sources_of, some_in, within, through}
 use Rattle.tpl_model.specs.Facts.{requested_itself}
 use Rattle.tpl_model.specs.declared.claim.Given.{Given}
-use Rattle.tpl_model.specs.declared.claim.Given.TheVariants.{Input, Quiet, Ended, Succeeds}
+use Rattle.tpl_model.specs.declared.claim.Given.TheVariants.{Input, Quiet, Ended, Succeeds, Begins, Never as NeverBegins}
 use Rattle.tpl_model.specs.Certificate.{given_quiet}
 use Rattle.tpl_laws.proofs.Basics.{same_number}
 use Rattle.tpl_laws.proofs.Sources.{some_one, through_here, through_source, through_is}
@@ -41,6 +41,8 @@ quiet_source g [] k e = true_false (sym e)
 quiet_source g (Input i value ∷ given) k e = quiet_source g given k e
 quiet_source g (Ended t ends ∷ given) k e = quiet_source g given k e
 quiet_source g (Succeeds site ∷ given) k e = quiet_source g given k e
+quiet_source g (Begins site ∷ given) k e = quiet_source g given k e
+quiet_source g (NeverBegins site ∷ given) k e = quiet_source g given k e
 quiet_source g (Quiet n ∷ given) k e =
     elim (or_cases (through g (nat_eq k) n.0) (given_quiet g given k) e) [
       | inl a ↦
@@ -54,6 +56,8 @@ source_quiet g [] k j e i = true_false (sym e)
 source_quiet g (Input i value ∷ given) k j e s = source_quiet g given k j e s
 source_quiet g (Ended t ends ∷ given) k j e s = source_quiet g given k j e s
 source_quiet g (Succeeds site ∷ given) k j e s = source_quiet g given k j e s
+source_quiet g (Begins site ∷ given) k j e s = source_quiet g given k j e s
+source_quiet g (NeverBegins site ∷ given) k j e s = source_quiet g given k j e s
 source_quiet g (Quiet n ∷ given) k j e s =
     elim (or_cases (nat_eq n.0 j) (gives_quiet given j) e) [
       | inl a ↦ or_left (through g (nat_eq k) n.0) (given_quiet g given k) (source_through g (nat_eq k) n.0 k (subst (λ z. IsSource g z k) (sym (same_number n.0 j a)) s) (same_self k))
@@ -99,6 +103,8 @@ plain_quiet g plain [] k = refl
 plain_quiet g plain (Input i value ∷ given) k = plain_quiet g plain given k
 plain_quiet g plain (Ended t ends ∷ given) k = plain_quiet g plain given k
 plain_quiet g plain (Succeeds site ∷ given) k = plain_quiet g plain given k
+plain_quiet g plain (Begins site ∷ given) k = plain_quiet g plain given k
+plain_quiet g plain (NeverBegins site ∷ given) k = plain_quiet g plain given k
 plain_quiet g plain (Quiet n ∷ given) k =
     ap (λ z. z || given_quiet g given k) (plain_through g plain (nat_eq k) n.0 ∙ same_either_way k n.0) ∙ ap (λ z. nat_eq n.0 k || z) (plain_quiet g plain given k)
 
