@@ -4,7 +4,7 @@ import importlib.util
 import pathlib
 import sys
 
-COMMANDS = ("minutes", "proof-costs", "trusted", "wrong")
+COMMANDS = ("keep-module", "minutes", "proof-costs", "trusted", "wrong")
 
 
 def load(command: str) -> None:

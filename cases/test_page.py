@@ -63,7 +63,7 @@ def file(bare_program, pytestconfig, tmp_path_factory) -> pathlib.Path:
     kind = kind_of(bare_program.path, pytestconfig.getoption("--release")).of(TARGETS["wasm"])
     wasm = made(TARGETS["wasm"], kind).read_bytes()
     to = tmp_path_factory.mktemp("page") / "taskgraph.html"
-    to.write_text(pages.page(wasm, help_of(bare_program.path), kind.value), encoding="utf-8")
+    to.write_text(pages.page(wasm, help_of(bare_program.path), kind.program), encoding="utf-8")
     return to
 
 

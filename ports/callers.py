@@ -1,6 +1,8 @@
 """How the program for each system is called on this machine: with words and standard input, for what it answers."""
+import atexit
 import contextlib
 import dataclasses
+import functools
 import itertools
 import json
 import os
@@ -87,24 +89,31 @@ class Wine:
         return called([WINE / "wine64", "cmd", "/c", file.name], b"", self.environment, file.parent)
 
 
+@functools.cache
+def environment_of_wine() -> dict[str, str]:
+    """That of a home of Wine's, which all programs of this process share: to make one takes longer than many answers. It is begun
+    without a program first: what Wine starts with the first one would hold that one's streams. Its server ends with this process."""
+    home = tempfile.mkdtemp(prefix="wine-")
+    environment = {"WINEPREFIX": home, "WINEDEBUG": "-all", "WINEDLLOVERRIDES": "mscoree,mshtml="}
+
+    def quietly(*words: str | pathlib.Path) -> None:
+        null = subprocess.DEVNULL
+        subprocess.run(words, env={**os.environ, **environment}, stdin=null, stdout=null, stderr=null, check=False)
+
+    def end() -> None:
+        quietly(WINE / "wineserver64", "-k")
+        quietly(WINE / "wineserver64", "-w")
+        shutil.rmtree(home, ignore_errors=True)
+
+    atexit.register(end)
+    quietly(WINE / "wineserver64", f"-p{SERVED}")
+    quietly(WINE / "wine64", "wineboot", "--init")
+    return environment
+
+
 @contextlib.contextmanager
 def by_wine(program: pathlib.Path) -> Iterator[Caller]:
-    """In a home of its own, whose server ends with the last call. It is begun without a program first: what Wine starts with
-    the first one would hold that one's streams."""
-    with tempfile.TemporaryDirectory(prefix="wine-") as home:
-        environment = {"WINEPREFIX": home, "WINEDEBUG": "-all", "WINEDLLOVERRIDES": "mscoree,mshtml="}
-
-        def quietly(*words: str | pathlib.Path) -> None:
-            null = subprocess.DEVNULL
-            subprocess.run(words, env={**os.environ, **environment}, stdin=null, stdout=null, stderr=null, check=False)
-
-        quietly(WINE / "wineserver64", f"-p{SERVED}")
-        quietly(WINE / "wine64", "wineboot", "--init")
-        try:
-            yield Wine(program, environment)
-        finally:
-            quietly(WINE / "wineserver64", "-k")
-            quietly(WINE / "wineserver64", "-w")
+    yield Wine(program, environment_of_wine())
 
 
 def under_wasi(program: pathlib.Path, words: Sequence[str], stdin: pathlib.Path) -> Answer:

@@ -2,7 +2,8 @@
 
 The module is LLVM's code as the toolchain lowers the sources, before its clang compiles it. That of the unproved program
 stands beside it: `.ci/compile` leaves it there. That of the proved one is kept here, as the toolchain hands it to its clang:
-for that the program's crate is proved once more, over the libraries that `./prove` or `rt ci` has proved.
+for a release the program's crate is proved once more, over the libraries that `./prove` or `rt ci` has proved. The gate keeps
+it while `rt ci` has it compiled.
 """
 import contextlib
 import dataclasses
@@ -117,6 +118,14 @@ def linked() -> Source | None:
     """The object file alone from which the proved program was linked, where there is one: for what is linked and not compiled."""
     made = own_object()
     return Source(made, made, LINUX, "") if made else None
+
+
+def of_gate() -> Source | None:
+    """The module of the proved program that the gate kept, where no source is newer: .ci/keep-module copies it while `rt ci` has
+    it compiled."""
+    module = OUT / "gate/taskgraph.bc"
+    is_current = module.is_file() and os.path.getmtime(module) >= newest([*below(PROGRAM), PROGRAM])
+    return Source(module, None, LINUX, "") if is_current else None
 
 
 @contextlib.contextmanager

@@ -225,7 +225,7 @@ class Kind(enum.Enum):
     """Of which program the one for a system is made."""
 
     UNPROVED = "unproved"
-    # the proved one where its object file is enough, else the unproved one: the gate proves no crate a second time
+    # the proved one where the gate has what it takes, else the unproved one: the gate proves no crate a second time
     TRIED = "tried"
     # the one that is proved for Linux x86-64
     PROVED = "proved"
@@ -234,9 +234,14 @@ class Kind(enum.Enum):
 
     def of(self, target: Target) -> "Kind":
         """The kind for a system: most are made of the one that is proved for Linux x86-64."""
-        if self == Kind.TRIED and not target.takes_object:
+        if self == Kind.TRIED and not target.takes_object and not modules.of_gate():
             return Kind.UNPROVED
         return Kind.PROVED if self == Kind.RELEASED and target.proved_for == LINUX else self
+
+    @property
+    def program(self) -> str:
+        """Which program one of this kind is made of, once it is the kind for a system: as the page says it."""
+        return "unproved" if self == Kind.UNPROVED else "proved"
 
 
 def kind_of(program: pathlib.Path, is_release: bool) -> Kind:
@@ -251,7 +256,10 @@ def source_of(target: Target, kind: Kind) -> Source:
         fcntl.flock(held, fcntl.LOCK_EX)
         if kind not in (Kind.UNPROVED, Kind.TRIED):
             return modules.proved(proved_for)
-        found = modules.linked() if kind == Kind.TRIED else modules.unproved() if target.takes_object else None
+        if kind == Kind.TRIED:
+            found = (modules.linked() if target.takes_object else None) or modules.of_gate()
+        else:
+            found = modules.unproved() if target.takes_object else None
         return found or modules.lowered()
 
 
