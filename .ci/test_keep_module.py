@@ -81,7 +81,9 @@ def test_a_copy_of_the_crate_is_another_program(crate, room, started, tmp_path):
     assert keep_module.compilers() == []
 
 
-@pytest.mark.parametrize("words", [COMPILES[2:], (*COMPILES[:3], "out/tpl_cli_tests.o"), (*COMPILES[:3], "out/tpl_cli.by-rattle.o")])
+@pytest.mark.parametrize(
+    "words", [COMPILES[2:], (*COMPILES[:3], "out/tpl_cli_tests.o"), (*COMPILES[:3], "out/tpl_cli.by-rattle.o")]
+)
 def test_what_else_is_compiled_there(crate, room, started, words):
     """What isn't proved yet, the tests of the crate, and the program by the other compiler."""
     start(crate, room, words, started)

@@ -109,10 +109,12 @@ def answered(program, text: str, command: str = COMMAND) -> list[str]:
     return [f"exit status {answer.exit}", answer.stdout, answer.stderr]
 
 
-@pytest.mark.parametrize("example", examples(), ids=lambda file: file.stem)
-def test_an_example(bare_program, page: Page, example: pathlib.Path):
-    choose(page, "example", example.stem)
-    assert shown(page) == answered(bare_program, example.read_text(encoding="utf-8"))
+def test_each_example(bare_program, page: Page):
+    """One after another on a page that stays open: to open it anew takes longer than most answers."""
+    assert page.run("Object.keys(EXAMPLES)") == [example.stem for example in examples()]
+    for example in examples():
+        choose(page, "example", example.stem)
+        assert shown(page) == answered(bare_program, example.read_text(encoding="utf-8")), example.stem
 
 
 def test_each_command(bare_program, page: Page):

@@ -17,8 +17,8 @@ from modules import HERE
 # how long an answer may take under an emulator, in seconds
 LIMIT = 600
 WINE = pathlib.Path("/usr/lib/wine")
-# how long wine's server stays when no program runs, in seconds: each start of it takes longer than most answers
-SERVED = 600
+# how long Wine's server stays when no program runs, in seconds: longer than whatever is done between two of them
+SERVED = 3600
 # one of so many calls of the program for WASI is made under Node's own WASI too
 OWN = 20
 
@@ -92,7 +92,7 @@ class Wine:
 @functools.cache
 def environment_of_wine() -> dict[str, str]:
     """That of a home of Wine's, which all programs of this process share: to make one takes longer than many answers. It is begun
-    without a program first: what Wine starts with the first one would hold that one's streams. Its server ends with this process."""
+    without a program first: what Wine starts with the first one would hold that one's streams. It ends with this process."""
     home = tempfile.mkdtemp(prefix="wine-")
     environment = {"WINEPREFIX": home, "WINEDEBUG": "-all", "WINEDLLOVERRIDES": "mscoree,mshtml="}
 
