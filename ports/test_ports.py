@@ -3,6 +3,7 @@ import gzip
 import hashlib
 import io
 import json
+import os
 import pathlib
 import shutil
 import subprocess
@@ -147,6 +148,34 @@ def test_the_page_of_proofs_quotes_verdicts():
     quoted = {verdicts.target_of(line[0]) for line in verdicts.QUOTED.finditer(text)}
     wanted = {target for target in (modules.LINUX, modules.ARM64) if verdicts.NONE.format(target) not in text}
     assert quoted == wanted and modules.LINUX in quoted
+
+
+# ---- of which program the gate makes those that it tries
+
+
+@pytest.fixture
+def module_of_gate(tmp_path, monkeypatch) -> pathlib.Path:
+    """Stands for the module that the gate has kept."""
+    for each in (modules, targets):
+        monkeypatch.setattr(each, "OUT", tmp_path)
+    module = tmp_path / "gate/taskgraph.bc"
+    module.parent.mkdir()
+    module.write_bytes(b"")
+    return module
+
+
+@pytest.mark.parametrize("name", ["arm64", "windows", "wasm"])
+def test_the_gate_tries_the_proved_program(name, module_of_gate):
+    kind = targets.Kind.TRIED.of(targets.TARGETS[name])
+    assert (kind, kind.program) == (targets.Kind.TRIED, "proved")
+    assert targets.source_of(targets.TARGETS[name], kind).module == module_of_gate
+
+
+@pytest.mark.parametrize("name", ["arm64", "windows", "wasm"])
+def test_the_gate_tries_the_unproved_program_where_a_source_is_newer(name, module_of_gate):
+    os.utime(module_of_gate, (0, 0))
+    kind = targets.Kind.TRIED.of(targets.TARGETS[name])
+    assert (kind, kind.program) == (targets.Kind.UNPROVED, "unproved")
 
 
 # ---- which questions are asked
