@@ -16,7 +16,7 @@ from small_repository import called, create  # noqa: E402  isort:skip
 PORTS = [
     str(file.relative_to(TOP)) for pattern in ("*.py", "make", "shims/*", "macos/*") for file in (TOP / "ports").glob(pattern)
 ]
-SCRIPTS = ("prove", ".ci/crates.py", ".ci/compiling.py", "cases/debian.py", *PORTS)
+SCRIPTS = (".ci/crates.py", ".ci/compiling.py", "cases/debian.py", *PORTS)
 LIBRARY = """//! A number.
 #![tactic(auto)]
 
@@ -48,11 +48,13 @@ def needs(*tools: str) -> pytest.MarkDecorator:
 
 @pytest.fixture(scope="module")
 def top(tmp_path_factory) -> pathlib.Path:
-    """A repository of a program over one library, which are proved."""
+    """A repository of a program over one library, which are proved: by one job, since several take far more processor time."""
     folder = tmp_path_factory.mktemp("top")
     made = create(folder, {"low": ((), LIBRARY), "tpl_cli": (("low",), PROGRAM)}, SCRIPTS)
-    _, said, status = called(made, "prove")
-    assert status == 0, said
+    for crate, command in (("low", "lib"), ("tpl_cli", "run")):
+        words, place = ["rt", command, "--jobs", "1"], made / "crates" / crate
+        ran = subprocess.run(words, cwd=place, stdin=subprocess.DEVNULL, capture_output=True, text=True, check=False)
+        assert ran.returncode == 0, ran.stdout + ran.stderr
     return made
 
 
